@@ -31,6 +31,13 @@ impl<T> List<T> {
         }
     }
 
+    /// The list of these items. Takes no memory.
+    pub fn from_vec(items: Vec<T>) -> List<T>
+        ensures { result ≡ items.items }
+    {
+        List { items }
+    }
+
     /// How many items there are. Takes no memory.
     pub fn len(&self) -> usize
         ensures { result ≡ length self.now }

@@ -1,0 +1,11 @@
+//! Intel HEX files of PIC16 program memory (Intel, Hexadecimal Object File Format Specification).
+//!
+//! Contracts see an `Image` as its words by address and the bytes of a file. `write` gives the one
+//! written form of an image. The simulator, the compiler and the firmware's promises stand on it.
+#![tactic(auto)]
+
+mod images;
+mod writer;
+
+pub use images::{Aside, Image, Word};
+pub use writer::write;

@@ -1,0 +1,63 @@
+use Rattle.std.specs.Prelude.{◌≡◌, ◌≢◌, ℕ, ◌<◌, ◌≤◌, ◌+◌, ◌^◌, List, [], ◌∷◌, length, IsTrue}
+use Rattle.std.specs.List.{AllByRecursion}
+use Rattle.frp_tree.specs.Names.{is_name}
+use Rattle.frp_tree.specs.declared.syntax.Ty.{Ty}
+use Rattle.frp_tree.specs.declared.syntax.Ty.TheVariants.{Bool, U8, U16}
+use Rattle.map_file.specs.declared.maps.MapEvent.{MapEvent}
+use Rattle.map_file.specs.declared.maps.MapState.{MapState}
+use Rattle.map_file.specs.declared.maps.Range.{Range}
+use Rattle.map_file.specs.declared.maps.Map.{Map}
+
+-- A code address is below 2000h, a data address below 200h.
+abbrev pub IsCode : ℕ → Type 0
+IsCode address = address < 0x2000
+
+abbrev pub IsData : ℕ → Type 0
+IsData address = address < 0x200
+
+pub record IsEvent (e : MapEvent) : Type 0 where
+  pub name : IsTrue (is_name e.name)
+  pub above_zero : 0 < e.priority
+  pub priority : e.priority ≤ 11
+  pub opens : IsCode e.«open»
+  pub commits : IsCode e.commit
+
+-- A state of one byte has the same address twice.
+abbrev pub AddressesFit : Ty → ℕ → ℕ → Type 0
+AddressesFit Bool low high = IsData low × (high ≡ low)
+AddressesFit U8 low high = IsData low × (high ≡ low)
+AddressesFit U16 low high = IsData low × IsData high
+
+pub record IsState (s : MapState) : Type 0 where
+  pub name : IsTrue (is_name s.name)
+  pub addresses : AddressesFit s.ty s.low s.high
+
+-- Each differs from all behind it, by what f tells of it.
+abbrev pub AllDiffer : {A B : Type 0} → (A → B) → List A → Type 0
+AllDiffer f [] = Unit {0}
+AllDiffer f (x ∷ xs) = AllByRecursion (λ y. f y ≢ f x) xs × AllDiffer f xs
+
+-- The ranges rise from `low` on, with at least one address between two, and the first address of each isn't above
+-- its last.
+abbrev pub RangesRise : ℕ → List Range → Type 0
+RangesRise low [] = Unit {0}
+RangesRise low (r ∷ rs) = (low ≤ r.from) × (r.from ≤ r.to) × IsData r.to × RangesRise (r.to + 2) rs
+
+-- The rules of a map: its numbers are in range, no name is given to two events or to two states, and no
+-- source to two events.
+pub record IsMap (m : Map) : Type 0 where
+  pub events : AllByRecursion IsEvent m.events
+  pub event_names : AllDiffer (λ e. e.name) m.events
+  pub sources : AllDiffer (λ e. e.source) m.events
+  pub event_limit : length m.events ≤ 11
+  pub states : AllByRecursion IsState m.states
+  pub state_names : AllDiffer (λ s. s.name) m.states
+  pub state_limit : length m.states ≤ 128
+  pub outputs : AllByRecursion (λ port. port < 5) m.outputs
+  pub output_limit : length m.outputs ≤ 5
+  pub ready : IsCode m.ready
+  pub ranges : RangesRise 0 m.regs
+  pub depth : m.depth ≤ 8
+  pub ram : m.ram ≤ 352
+  pub words : m.words ≤ 8192
+  pub settle : m.settle < 2 ^ 32

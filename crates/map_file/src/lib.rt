@@ -1,0 +1,12 @@
+//! The map of a firmware image: which addresses mean which event, state and register, and the bounds that
+//! the firmware keeps.
+//!
+//! Contracts see a `Map` as its lists and numbers, and its text as the bytes of a file. `write` gives the one
+//! text of a map. The compiler, the simulator's trace and the firmware's promises stand on it.
+#![tactic(auto)]
+
+mod maps;
+mod writer;
+
+pub use maps::{Map, MapEvent, MapState, Range};
+pub use writer::write;

@@ -1,0 +1,45 @@
+use frp_tree::{List, Text, Ty};
+use pic_isa::Source;
+
+/// An event: its source and priority, and the addresses, in words, of the first instruction after its passed
+/// test (`open`) and of the instruction after which its commit is done (`commit`).
+#[derive(Debug, Drop)]
+pub struct MapEvent {
+    pub name: Text,
+    pub source: Source,
+    pub priority: u8,
+    pub open: u16,
+    pub commit: u16,
+}
+
+/// A state and the data addresses of its bytes. A bool or a u8 has one byte, and `high` is `low` there.
+#[derive(Debug, Drop)]
+pub struct MapState {
+    pub name: Text,
+    pub ty: Ty,
+    pub low: u16,
+    pub high: u16,
+}
+
+/// Data addresses from the first to the last, both included.
+#[derive(Clone, Copy, Debug, PartialEq, Eq)]
+pub struct Range {
+    pub from: u16,
+    pub to: u16,
+}
+
+/// A map. `outputs` are the numbers of ports, 0 to 4, `ready` is a code address in words, `regs` the registers
+/// that the firmware may write. The firmware reports: the greatest depth of the return stack, in places,
+/// the bytes of general RAM outside 70h to 7Fh, the words of the image, and the steps in which it settles.
+#[derive(Debug, Drop)]
+pub struct Map {
+    pub events: List<MapEvent>,
+    pub states: List<MapState>,
+    pub outputs: List<u8>,
+    pub ready: u16,
+    pub regs: List<Range>,
+    pub depth: u8,
+    pub ram: u16,
+    pub words: u16,
+    pub settle: u32,
+}
