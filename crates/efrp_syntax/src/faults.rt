@@ -1,0 +1,27 @@
+/// What there may be too many of.
+#[derive(Clone, Copy, Debug, PartialEq, Eq)]
+pub enum Kind {
+    Events,
+    Setups,
+    Definitions,
+    Outputs,
+    Nodes,
+}
+
+/// Why a text has no tokens or no tree. Bytes and tokens are numbered from 0.
+#[derive(Clone, Copy, Debug, PartialEq, Eq)]
+pub enum SyntaxFault {
+    /// No token, blank or comment begins at this byte, or a name or a digit follows a number there.
+    BadByte(u32),
+    /// The name at this byte is longer than 31 bytes, or the number there is above 65,535. At byte 65,536: the
+    /// text is longer than that.
+    TooBig(u32),
+    /// This many tokens are the longest front with which some program begins.
+    Unexpected(u32),
+    /// This token opens a nesting of 65.
+    TooDeep(u32),
+    /// There is one too many of this kind.
+    TooMany(Kind),
+    /// Want of memory.
+    Memory,
+}

@@ -1,0 +1,12 @@
+//! The syntax of source texts: so far the lexer.
+//!
+//! Contracts see the tokens of a text by the rule of the longest token, and the place of the first byte that
+//! no token, blank or comment begins at. The tool's front end stands on it.
+#![tactic(auto)]
+
+mod faults;
+mod lexer;
+
+pub use faults::{Kind, SyntaxFault};
+pub use frp_tree::Token;
+pub use lexer::lex;
