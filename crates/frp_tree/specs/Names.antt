@@ -1,5 +1,6 @@
 use Rattle.std.specs.Prelude.{ℕ, Bool, false, ◌&&◌, ◌||◌, ◌==◌, nat_le, List, [], ◌∷◌, length, codes}
-use Rattle.std.specs.List.{list_all}
+use Rattle.std.specs.List.{list_all, list_any}
+use Rattle.std.specs.Str.{bytes_eq}
 use Rattle.frp_tree.specs.declared.syntax.Ty.{Ty}
 use Rattle.frp_tree.specs.declared.syntax.Ty.TheVariants as ty
 
@@ -28,3 +29,12 @@ abbrev pub type_name : Ty → List ℕ
 type_name ty.Bool = codes "bool"
 type_name ty.U8 = codes "u8"
 type_name ty.U16 = codes "u16"
+
+-- The words that are no names.
+abbrev pub keywords : List (List ℕ)
+keywords =
+    codes "event" ∷ codes "priority" ∷ codes "setup" ∷ codes "let" ∷ codes "init" ∷ codes "in" ∷ codes "later" ∷ codes "output"
+    ∷ codes "if" ∷ codes "then" ∷ codes "else" ∷ codes "true" ∷ codes "false" ∷ codes "bool" ∷ codes "u8" ∷ codes "u16" ∷ []
+
+abbrev pub is_keyword : List ℕ → Bool
+is_keyword word = list_any (bytes_eq word) keywords

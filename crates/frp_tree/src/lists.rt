@@ -70,3 +70,13 @@ impl<T: Drop> List<T> {
         Ok(())
     }
 }
+
+impl<T: Copy> List<T> {
+    /// Adds copies of these items at the end. An `Err` is want of memory, and changes nothing.
+    pub fn extend_from_slice(&mut self, items: &[T]) -> Result<(), AllocError>
+        ensures ok { OnOk result (self.new ≡ self.old ++ items.now) }
+        ensures err { OnErr result (self.new ≡ self.old) }
+    {
+        self.items.extend_from_slice(items)
+    }
+}

@@ -24,11 +24,11 @@ fn on_bit(row: u16, f: u8, b: u8) -> u16
     row + 128 * u16::from(b) + u16::from(f)
 }
 
-/// The word of an instruction whose fields are in range, with 0 at each bit that is ignored. It is below
-/// 4000h.
+/// The word of an instruction whose fields are in range, with 0 at each bit that is ignored.
 pub fn encode(i: &Instr) -> u16
     requires { FieldsFit i.now }
-    ensures { result ≡ word_of i.now }
+    ensures word { result ≡ word_of i.now }
+    ensures below { result < 0x4000 }
 {
     match *i {
         Instr::Addwf { f, d } => on_register(0x0700, f, d),

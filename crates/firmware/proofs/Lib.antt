@@ -1,0 +1,4 @@
+pub mod BoundFacts
+pub mod CodeFacts
+pub mod MapFacts
+pub mod RangeFacts

@@ -1,0 +1,5 @@
+use Rattle.firmware.proofs.MapFacts.{map_rules}
+use Rattle.firmware.proofs.build.compile.Goals as goal
+
+pub returns-clause-rules : goal.returns-clause-rules
+returns-clause-rules c = rw c.in_ok-map.ensures (map_rules c.args.counter.now c.requires)
