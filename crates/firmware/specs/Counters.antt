@@ -71,25 +71,40 @@ arrow = Mark 7
 abbrev pub plus : Token
 plus = Mark 21
 
--- The tokens of each item, by the grammar.
-abbrev pub event_tokens : Counter → List Token
-event_tokens c = Word (codes "event") ∷ Word c.event ∷ equals ∷ Word (source_name c.source) ∷ Word (codes "priority") ∷ Num c.priority ∷ semicolon ∷ []
+-- The tokens of each item, by the grammar: `event NAME = NAME priority NUM ;`
+abbrev pub event_tokens : List ℕ → List ℕ → ℕ → List Token
+event_tokens event source priority =
+    Word (codes "event") ∷ Word event ∷ equals ∷ Word source ∷ Word (codes "priority") ∷ Num priority ∷ semicolon ∷ []
 
-abbrev pub setup_tokens : Option SetupAt → List Token
-setup_tokens None = []
-setup_tokens (Some s) = Word (codes "setup") ∷ Word s.register ∷ equals ∷ Num s.byte ∷ semicolon ∷ []
+-- `setup NAME = NUM ;`
+abbrev pub setup_tokens : List ℕ → ℕ → List Token
+setup_tokens register byte = Word (codes "setup") ∷ Word register ∷ equals ∷ Num byte ∷ semicolon ∷ []
 
-abbrev pub decl_tokens : Counter → List Token
-decl_tokens c =
-    Word (codes "let") ∷ Word c.name ∷ colon ∷ Word (codes "u8") ∷ equals ∷ Word (codes "init") ∷ Num c.init ∷ Word (codes "in") ∷ opening
-    ∷ Word c.event ∷ arrow ∷ Word c.name ∷ plus ∷ Num c.step ∷ semicolon ∷ closing ∷ semicolon ∷ []
+abbrev pub optional_setup_tokens : Option SetupAt → List Token
+optional_setup_tokens None = []
+optional_setup_tokens (Some s) = setup_tokens s.register s.byte
 
-abbrev pub output_tokens : Counter → List Token
-output_tokens c = Word (codes "output") ∷ Word (name_of_port c.port) ∷ equals ∷ Word c.name ∷ semicolon ∷ []
+-- `let NAME : u8 = init NUM in {`
+abbrev pub decl_tokens : List ℕ → ℕ → List Token
+decl_tokens name init =
+    Word (codes "let") ∷ Word name ∷ colon ∷ Word (codes "u8") ∷ equals ∷ Word (codes "init") ∷ Num init ∷ Word (codes "in") ∷ opening ∷ []
+
+-- `NAME => NAME + NUM ;`, and then `} ;`
+abbrev pub clause_tokens : List ℕ → List ℕ → ℕ → List Token
+clause_tokens event name step = Word event ∷ arrow ∷ Word name ∷ plus ∷ Num step ∷ semicolon ∷ closing ∷ semicolon ∷ []
+
+-- `output NAME = NAME ;`
+abbrev pub output_tokens : List ℕ → List ℕ → List Token
+output_tokens port name = Word (codes "output") ∷ Word port ∷ equals ∷ Word name ∷ semicolon ∷ []
 
 -- The tokens of the program that a counter stands for: its items in order.
 abbrev pub tokens_of : Counter → List Token
-tokens_of c = event_tokens c ++ (setup_tokens c.setup ++ (decl_tokens c ++ output_tokens c))
+tokens_of c =
+    event_tokens c.event (source_name c.source) c.priority
+    ++ (optional_setup_tokens c.setup
+    ++ (decl_tokens c.name c.init
+    ++ (clause_tokens c.event c.name c.step
+    ++ output_tokens (name_of_port c.port) c.name)))
 
 -- The text spells the program of the first form that this counter stands for.
 abbrev pub Spells : List ℕ → Counter → Type 0

@@ -1,0 +1,138 @@
+use Rattle.std.specs.Prelude.{◌≡◌, ◌≢◌, ℕ, ◌<◌, ◌≤◌, List, [], ◌∷◌, length, Option, Some, None, MatchOption, codes, ◌⊎◌}
+use Rattle.edge_io.specs.declared.outside.TheConstants.{LONGEST_FILE}
+use Rattle.edge_io.specs.Files.{Held, SameOthers, BothTold, IfTold, KeepsFiles}
+use Rattle.edge_io.specs.Counts.{Rose}
+use Rattle.hex_file.specs.Written.{written}
+use Rattle.map_file.specs.MapText.{map_text}
+use Rattle.firmware.specs.declared.counters.Counter.{Counter}
+use Rattle.firmware.specs.Counters.{Spells, program_of}
+use Rattle.firmware.specs.Layout.{image_of}
+use Rattle.firmware.specs.Maps.{map_of}
+use Rattle.frp_tool.specs.declared.commands.Command.{Command}
+use Rattle.frp_tool.specs.declared.commands.Command.TheVariants.{Compile}
+use Rattle.frp_tool.specs.Commands.{command_of}
+use Rattle.frp_tool.specs.Steps.{Ends, Has, SameButTwo, Stores}
+use Rattle.frp_tool.specs.Lines.{usage, named_line, form_line, summary}
+
+-- What a call meets and leaves: the files and the bytes put, where they are told, and the counts of faults.
+pub record Outside : Type 0 where
+  pub files : Option Held
+  pub read_faults : ℕ
+  pub write_faults : ℕ
+  pub taken : Option (List ℕ)
+  pub put_faults : ℕ
+
+-- The names that `compile` is given.
+pub record Request : Type 0 where
+  pub source : List ℕ
+  pub hex : List ℕ
+  pub map : List ℕ
+
+abbrev pub where_compile : Option Command → Request → Option Request
+where_compile (Some Compile) r = Some r
+where_compile _ r = None
+
+-- The request of words that form a `compile`. Other commands aren't built yet.
+abbrev pub request_of : List (List ℕ) → Option Request
+request_of (name ∷ a ∷ b ∷ c ∷ []) = where_compile (command_of (name ∷ a ∷ b ∷ c ∷ [])) (record { source = a; hex = b; map = c })
+request_of _ = None
+
+-- What the tests of a request say, in their order: the source isn't there; it wasn't read; it is too long; it spells no
+-- program of the first form; its HEX wasn't written; its map wasn't written; all was done.
+pub data Verdict : Type 0 where
+  Missing : Verdict
+  ReadFailed : Verdict
+  TooLong : Verdict
+  NoForm : Verdict
+  HexFailed : Counter → Verdict
+  MapFailed : Counter → Verdict
+  Done : Counter → Verdict
+
+abbrev pub status_of : Verdict → ℕ
+status_of Missing = 3
+status_of ReadFailed = 4
+status_of TooLong = 1
+status_of NoForm = 1
+status_of (HexFailed c) = 5
+status_of (MapFailed c) = 5
+status_of (Done c) = 0
+
+-- The line that is to be put.
+abbrev pub line_of : Request → Verdict → List ℕ
+line_of r Missing = named_line (codes "missing: ") r.source
+line_of r ReadFailed = named_line (codes "read failed: ") r.source
+line_of r TooLong = named_line (codes "refused: long ") r.source
+line_of r NoForm = form_line
+line_of r (HexFailed c) = named_line (codes "write failed: ") r.hex
+line_of r (MapFailed c) = named_line (codes "write failed: ") r.map
+line_of r (Done c) = summary (map_of c) (program_of c)
+
+-- The source is held, and this holds of its text, where files are told.
+abbrev pub OfSource : Request → Outside → (List ℕ → Type 0) → Type 0
+OfSource r before P = IfTold before.files (λ held. (text : List ℕ) × (held r.source ≡ Some text) × P text)
+
+-- The source spells the program of the first form that the counter stands for.
+abbrev pub SourceSpells : Request → Outside → Counter → Type 0
+SourceSpells r before c = OfSource r before (λ text. Spells text c)
+
+-- Why a verdict comes.
+abbrev pub Cause : Request → Outside → Outside → Verdict → Type 0
+Cause r before after Missing = IfTold before.files (λ held. held r.source ≡ None)
+Cause r before after ReadFailed = Rose before.read_faults after.read_faults × OfSource r before (λ text. length text ≤ LONGEST_FILE)
+Cause r before after TooLong = OfSource r before (λ text. LONGEST_FILE < length text)
+Cause r before after NoForm = OfSource r before (λ text. (length text ≤ LONGEST_FILE) × ((c : Counter) → Spells text c → ⊥))
+Cause r before after (HexFailed c) = SourceSpells r before c × Rose before.write_faults after.write_faults
+Cause r before after (MapFailed c) = SourceSpells r before c × Rose before.write_faults after.write_faults
+Cause r before after (Done c) = SourceSpells r before c
+
+-- HEX holds the written form of the counter's image, and MAP the text of its map.
+abbrev pub HexIsWhole : Request → Held → Counter → Type 0
+HexIsWhole r held c = Has held r.hex (written (image_of c))
+
+abbrev pub MapIsWhole : Request → Held → Counter → Type 0
+MapIsWhole r held c = Has held r.map (map_text (map_of c))
+
+-- Each file but HEX and MAP is as it was.
+abbrev pub OthersAsBefore : Request → Held → Held → Type 0
+OthersAsBefore r old new = SameButTwo old new r.hex r.map
+
+-- The files that a verdict leaves. After a failed write the file of that name holds anything.
+abbrev pub Left : Request → Option Held → Option Held → Verdict → Type 0
+Left r old new Missing = KeepsFiles old new
+Left r old new ReadFailed = KeepsFiles old new
+Left r old new TooLong = KeepsFiles old new
+Left r old new NoForm = KeepsFiles old new
+Left r old new (HexFailed c) = BothTold old new (λ before after. SameOthers before after r.hex)
+Left r old new (MapFailed c) = BothTold old new (λ before after. HexIsWhole r after c × OthersAsBefore r before after)
+Left r old new (Done c) = BothTold old new (λ before after. HexIsWhole r after c × MapIsWhole r after c × OthersAsBefore r before after)
+
+-- Memory ran out before there was a verdict: nothing was put, and no file has changed, or HEX is whole and no other
+-- has.
+abbrev pub Exhausted : Request → Outside → Outside → ℕ → Type 0
+Exhausted r before after status =
+    (status ≡ 6) × (before.taken ≡ after.taken)
+    × (KeepsFiles before.files after.files
+        ⊎ ((c : Counter) × SourceSpells r before c × BothTold before.files after.files (λ old new. HexIsWhole r new c × SameOthers old new r.hex)))
+
+-- How a call of `compile` ends: with a verdict, its cause, the files that it leaves and its line, or exhausted.
+abbrev pub Compiles : Request → Outside → Outside → ℕ → Type 0
+Compiles r before after status =
+    Exhausted r before after status
+    ⊎ ((v : Verdict) × Cause r before after v × Left r before.files after.files v × Ends before.taken after.taken before.put_faults after.put_faults (status_of v) (line_of r v) status)
+
+-- How any call ends. Words that form no command that is built are answered by the usage line.
+abbrev pub Answers : List (List ℕ) → Outside → Outside → ℕ → Type 0
+Answers words before after status =
+    MatchOption (request_of words) (KeepsFiles before.files after.files × Ends before.taken after.taken before.put_faults after.put_faults 2 usage status) (λ r. Compiles r before after status)
+
+-- How `compile` goes on with a text that was read: it spells no program of the first form; memory ran out before the
+-- writes; or it spells that of a counter, whose image and map are written and whose summary is put.
+abbrev pub CompilesText : List ℕ → List ℕ → List ℕ → Option Held → Option Held → ℕ → ℕ → Option (List ℕ) → Option (List ℕ) → ℕ → ℕ → ℕ → Type 0
+CompilesText text hex map files files' writes writes' taken taken' puts puts' status =
+    (((c : Counter) → Spells text c → ⊥) × KeepsFiles files files' × Ends taken taken' puts puts' 1 form_line status)
+    ⊎ ((status ≡ 6) × (taken ≡ taken') × KeepsFiles files files')
+    ⊎ ((c : Counter) × Spells text c × Stores hex (written (image_of c)) map (map_text (map_of c)) (summary (map_of c) (program_of c)) files files' writes writes' taken taken' puts puts' status)
+
+-- What a call meets or leaves, from its parts.
+abbrev pub outside : Option Held → ℕ → ℕ → Option (List ℕ) → ℕ → Outside
+outside its_files reads writes its_taken puts = record { files = its_files; read_faults = reads; write_faults = writes; taken = its_taken; put_faults = puts }

@@ -1,0 +1,5 @@
+pub mod Answers
+pub mod Commands
+pub mod Items
+pub mod Lines
+pub mod Steps

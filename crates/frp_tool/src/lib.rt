@@ -1,0 +1,15 @@
+//! The tool: what each command reads, writes and puts, and the status that it ends with.
+//!
+//! Contracts see the words of a command, the files before and after, the bytes that were put and the counts of
+//! faults. The program `efrp` is a thin `main` over the one public call. So far it has the command `compile`, for
+//! programs of the first form.
+#![tactic(auto)]
+
+mod commands;
+mod first_form;
+mod items;
+mod phrases;
+mod source;
+mod tool;
+
+pub use tool::efrp;
