@@ -1,1 +1,1 @@
-pub mod BoundExamples
+pub mod DigitFacts

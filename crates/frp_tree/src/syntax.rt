@@ -1,5 +1,6 @@
 ghost use Rattle.std.specs.Prelude.{◌≡◌};
 ghost use Rattle.frp_tree.specs.Literals.{lit_value_of};
+ghost use Rattle.frp_tree.specs.Names.{type_name};
 
 use crate::lists::List;
 use crate::texts::Text;
@@ -10,6 +11,19 @@ pub enum Ty {
     Bool,
     U8,
     U16,
+}
+
+impl Ty {
+    /// How the type is written. Takes no memory.
+    pub fn name(self) -> &'static str
+        ensures { result.now ≡ type_name self }
+    {
+        match self {
+            Ty::Bool => "bool",
+            Ty::U8 => "u8",
+            Ty::U16 => "u16",
+        }
+    }
 }
 
 /// A value of one of the types.

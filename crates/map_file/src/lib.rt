@@ -6,6 +6,8 @@
 #![tactic(auto)]
 
 mod maps;
+#[cfg(test)]
+mod tests;
 mod writer;
 
 pub use maps::{Map, MapEvent, MapState, Range};

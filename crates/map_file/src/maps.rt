@@ -1,8 +1,8 @@
 use frp_tree::{List, Text, Ty};
 use pic_isa::Source;
 
-/// An event: its source and priority, and the addresses, in words, of the first instruction after its passed
-/// test (`open`) and of the instruction after which its commit is done (`commit`).
+/// An event: its source, its priority from 1 to 11, and the addresses, in words and below 2000h, of the first
+/// instruction after its passed test (`open`) and of the instruction after which its commit is done (`commit`).
 #[derive(Debug, Drop)]
 pub struct MapEvent {
     pub name: Text,
@@ -12,7 +12,8 @@ pub struct MapEvent {
     pub commit: u16,
 }
 
-/// A state and the data addresses of its bytes. A bool or a u8 has one byte, and `high` is `low` there.
+/// A state and the data addresses of its bytes, below 200h. A u16 has its low byte at `low` and its high byte at
+/// `high`. A bool or a u8 has one byte, and `high` is `low` there.
 #[derive(Debug, Drop)]
 pub struct MapState {
     pub name: Text,
@@ -21,7 +22,7 @@ pub struct MapState {
     pub high: u16,
 }
 
-/// Data addresses from the first to the last, both included.
+/// Data addresses from the first to the last, both included and below 200h.
 #[derive(Clone, Copy, Debug, PartialEq, Eq)]
 pub struct Range {
     pub from: u16,
@@ -29,8 +30,9 @@ pub struct Range {
 }
 
 /// A map. `outputs` are the numbers of ports, 0 to 4, `ready` is a code address in words, `regs` the registers
-/// that the firmware may write. The firmware reports: the greatest depth of the return stack, in places,
-/// the bytes of general RAM outside 70h to 7Fh, the words of the image, and the steps in which it settles.
+/// that the firmware may write, as rising ranges that don't touch. The firmware reports: the greatest depth of
+/// the return stack, in places (at most 8), the bytes of general RAM outside 70h to 7Fh (at most 352), the words
+/// of the image (at most 8192), and the steps in which it settles.
 #[derive(Debug, Drop)]
 pub struct Map {
     pub events: List<MapEvent>,

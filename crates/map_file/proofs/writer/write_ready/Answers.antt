@@ -1,0 +1,8 @@
+use Rattle.std.proofs.Common.{◌<◌, arith}
+use Rattle.frp_tree.proofs.DigitFacts.{hex4_written}
+use Rattle.map_file.proofs.writer.write_ready.Goals as goal
+
+pub returns : goal.returns
+returns c =
+    let small : c.args.ready < 65536 = omega arith in
+    simp (c.laid_out.ensures, c.in_radix.ensures, hex4_written _ small) at c.writeln.ensures.bytes
