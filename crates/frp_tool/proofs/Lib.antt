@@ -1,2 +1,4 @@
+pub mod Compiles
 pub mod Reading
+pub mod Sources
 pub mod Summaries

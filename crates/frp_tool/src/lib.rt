@@ -9,6 +9,7 @@ mod commands;
 mod first_form;
 mod items;
 mod phrases;
+mod requests;
 mod source;
 mod tool;
 

@@ -1,4 +1,4 @@
-ghost use Rattle.std.specs.Prelude.{IfOk, MatchOption};
+ghost use Rattle.std.specs.Prelude.{◌≡◌, ◌↔◌, IfOk, IsTrue, MatchOption};
 ghost use Rattle.firmware.specs.declared.counters.Counter.{Counter as Counters};
 ghost use Rattle.firmware.specs.Counters.{Spells};
 
@@ -7,13 +7,25 @@ use efrp_syntax::{SyntaxFault, lex};
 use firmware::Counter;
 use std::alloc::{AllocError, Global};
 
+fn is_memory(fault: SyntaxFault) -> bool
+    ensures { IsTrue result ↔ (fault ≡ SyntaxFault.Memory) }
+{
+    matches!(fault, SyntaxFault::Memory)
+}
+
 /// The program of the first form that a text spells, or None where it spells none. An `Err` is want of memory.
 pub fn program(alloc: Global, text: &[u8]) -> Result<Option<Counter>, AllocError>
     ensures { IfOk result (λ found. MatchOption found ((c : Counters) → Spells text.now c → ⊥) (λ c. Spells text.now c)) }
 {
-    match lex(alloc, text) {
-        Ok(tokens) => counter(alloc, tokens.as_slice()),
-        Err(SyntaxFault::Memory) => Err(AllocError),
-        Err(_) => Ok(None),
-    }
+    let tokens = match lex(alloc, text) {
+        Ok(tokens) => tokens,
+        Err(fault) => {
+            return if is_memory(fault) {
+                Err(AllocError)
+            } else {
+                Ok(None)
+            };
+        }
+    };
+    counter(alloc, tokens.as_slice())
 }

@@ -9,7 +9,7 @@ ghost use Rattle.frp_tool.specs.Lines.{named_line, summary, summary_of};
 ghost use Rattle.frp_tool.specs.Answers.{Answers, Compiles, CompilesText, outside};
 ghost use Rattle.frp_tool.specs.Steps.{Ends, Stores, StoresMap};
 
-use crate::commands::{Command, command_in};
+use crate::requests::request;
 use crate::source::program;
 use edge_io::{Files, PutFault, ReadFault, Sink, WriteFault};
 use firmware::{Counter, Limits, limits_of};
@@ -205,10 +205,8 @@ pub fn efrp<F: Files, S: Sink>(alloc: Global, words: &[Text], files: &mut F, out
         (outside (F.files files.old) (F.read_faults files.old) (F.write_faults files.old) (S.taken out.old) (S.put_faults out.old))
         (outside (F.files files.new) (F.read_faults files.new) (F.write_faults files.new) (S.taken out.new) (S.put_faults out.new)) result }
 {
-    match words {
-        [_, source, hex, map] if command_in(words) == Some(Command::Compile) => {
-            compile(alloc, source, hex, map, files, out)
-        }
-        _ => say(alloc, out, NO_COMMAND, USAGE),
+    match request(words) {
+        Some(names) => compile(alloc, names.source, names.hex, names.map, files, out),
+        None => say(alloc, out, NO_COMMAND, USAGE),
     }
 }

@@ -1,1 +1,2 @@
+pub mod BoundExamples
 pub mod DigitFacts
