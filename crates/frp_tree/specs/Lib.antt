@@ -1,4 +1,5 @@
 pub mod Digits
+pub mod Fronts
 pub mod Literals
 pub mod Names
 pub mod Tokens
