@@ -18,3 +18,8 @@ Lexed text (Err Memory) = Unit {0}
 Lexed text (Err (Unexpected tokens)) = ⊥
 Lexed text (Err (TooDeep token)) = ⊥
 Lexed text (Err (TooMany kind)) = ⊥
+
+-- The answer is this fault, or want of memory.
+abbrev pub IsRefused : SyntaxFault → Result (List Token) SyntaxFault → Type 0
+IsRefused fault (Ok tokens) = ⊥
+IsRefused fault (Err told) = (told ≡ fault) ⊎ (told ≡ Memory)

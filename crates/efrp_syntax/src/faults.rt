@@ -1,3 +1,5 @@
+use std::alloc::AllocError;
+
 /// What there may be too many of.
 #[derive(Clone, Copy, Debug, PartialEq, Eq)]
 pub enum Kind {
@@ -24,4 +26,15 @@ pub enum SyntaxFault {
     TooMany(Kind),
     /// Want of memory.
     Memory,
+}
+
+impl From<AllocError> for SyntaxFault {
+    ghost use Rattle.std.specs.Prelude.{◌≡◌};
+    ghost use Rattle.efrp_syntax.specs.declared.faults.SyntaxFault.TheVariants.{Memory};
+
+    ghost from_gives = { λ _ fault. fault ≡ Memory };
+
+    fn from(_error: AllocError) -> SyntaxFault {
+        SyntaxFault::Memory
+    }
 }

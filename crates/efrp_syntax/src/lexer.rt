@@ -1,22 +1,105 @@
-ghost use Rattle.std.specs.Prelude.{◌≡◌, List as Items, IfOk, IfErr};
+ghost use Rattle.std.specs.Prelude.{◌≡◌, ◌≢◌, ◌<◌, ◌≤◌, length, List as Items, IfOk, IfErr};
 ghost use Rattle.frp_tree.specs.declared.tokens.Token.{Token as Tokens};
-ghost use Rattle.frp_tree.specs.Tokens.{HasTokens};
-ghost use Rattle.efrp_syntax.specs.Lexed.{Lexed, OnlyMemory};
+ghost use Rattle.efrp_syntax.specs.declared.faults.SyntaxFault.{SyntaxFault as Faults};
+ghost use Rattle.frp_tree.specs.Tokens.{HasTokens, is_number_token};
+ghost use Rattle.efrp_syntax.specs.Lexed.{Lexed, OnlyMemory, IsRefused};
 
 use crate::faults::SyntaxFault;
+use crate::fronts::{skipped, token};
 use frp_tree::{List, Token};
 use std::alloc::Global;
 
+/// The greatest length of a text, in bytes.
+const LONGEST_TEXT: usize = 65_536;
+
+/// Whether the token is a number, with a suffix or without.
+fn is_number(token: &Token) -> bool
+    ensures { result ≡ is_number_token token.now }
+{
+    matches!(token, Token::Num(_) | Token::Wide(_))
+}
+
+/// The tokens of a text that isn't too long, or the first fault.
+fn cut(alloc: Global, text: &[u8]) -> Result<List<Token>, SyntaxFault>
+    requires { length text.now ≤ 65536 }
+    ensures { Lexed text.now result }
+{
+    let mut found = List::new(alloc);
+    let mut rest = text;
+    let mut after_number = false;
+    while !rest.is_empty() {
+        if let Some(more) = skipped(rest) {
+            rest = more;
+            after_number = false;
+        } else {
+            let place = (text.len() - rest.len()) as u32;
+            let (next, more) = token(alloc, after_number, rest, place)?;
+            after_number = is_number(&next);
+            found.push(next)?;
+            rest = more;
+        }
+    }
+    Ok(found)
+}
+
 /// The tokens of a text of at most 65,536 bytes. `TooBig(65536)` exactly where the text is longer;
-/// otherwise the first fault by byte place.
+/// otherwise the first fault by byte place, `BadByte` or `TooBig`. `Memory` is want of memory. The time is
+/// linear in the text.
 pub fn lex(alloc: Global, text: &[u8]) -> Result<List<Token>, SyntaxFault>
     // The tokens, or the first fault.
     ensures lexed { Lexed text.now result }
     // A text has at most one list of tokens, and one with a fault has none.
     ensures only { IfOk result (λ tokens. (others : Items Tokens) → HasTokens text.now others → others ≡ tokens) }
     ensures none { (others : Items Tokens) → HasTokens text.now others → IfErr result OnlyMemory }
+    // A text with a fault has one, and is refused with it.
+    ensures fault { (fault : Faults) → fault ≢ SyntaxFault.Memory → Lexed text.now (Err fault) → IsRefused fault result }
+    // A text that is too long takes no memory.
+    ensures long { 65536 < length text.now → result ≡ Err (SyntaxFault.TooBig 65536) }
 {
-    let _ = alloc;
-    let _bytes = text.len();
-    Err(SyntaxFault::Memory)
+    if text.len() > LONGEST_TEXT {
+        return Err(SyntaxFault::TooBig(65_536));
+    }
+    cut(alloc, text)
+}
+
+#[cfg(test)]
+mod tests {
+    use super::*;
+    use std::test::Fail;
+
+    const MARKS: &[u8] =
+        b"; : = { } ( ) => || && == != < <= > >= | ^ & << >> + - * / % ~ ! // ;\r and on";
+
+    #[test]
+    fn each_mark_has_its_number(rt: HostRuntime) -> Result<(), Fail> {
+        let tokens = lex(rt.alloc(), MARKS)?;
+        assert_eq!(rt; tokens.len(), 28);
+        let numbered = tokens.as_slice().iter().enumerate().all(|(
+            i,
+            token,
+        )| matches!(token, Token::Mark(k) if usize::from(*k) == i));
+        assert!(rt; numbered);
+        Ok(())
+    }
+
+    #[test]
+    fn names_and_numbers(rt: HostRuntime) -> Result<(), Fail> {
+        let tokens = lex(rt.alloc(), b"a=>0x1Fw//c\n007\t65535w _b9")?;
+        assert_eq!(rt; tokens.len(), 6);
+        assert!(rt; matches!(tokens.get(0), Some(Token::Word(name)) if name.as_str() == "a"));
+        assert!(rt; matches!(tokens.get(1), Some(Token::Mark(7))));
+        assert!(rt; matches!(tokens.get(2), Some(Token::Wide(31))));
+        assert!(rt; matches!(tokens.get(3), Some(Token::Num(7))));
+        assert!(rt; matches!(tokens.get(4), Some(Token::Wide(65_535))));
+        assert!(rt; matches!(tokens.get(5), Some(Token::Word(name)) if name.as_str() == "_b9"));
+        Ok(())
+    }
+
+    #[test]
+    fn first_faults(rt: HostRuntime) {
+        let no_mark = lex(rt.alloc(), b"event @").err();
+        assert_eq!(rt; no_mark, Some(SyntaxFault::BadByte(6)));
+        let long_name = lex(rt.alloc(), b"event abcdefghijklmnopqrstuvwxyz_01234 @").err();
+        assert_eq!(rt; long_name, Some(SyntaxFault::TooBig(6)));
+    }
 }

@@ -4,8 +4,12 @@
 //! no token, blank or comment begins at. The tool's front end stands on it.
 #![tactic(auto)]
 
+mod classes;
 mod faults;
+mod fronts;
 mod lexer;
+mod marks;
+mod numbers;
 
 pub use faults::{Kind, SyntaxFault};
 pub use frp_tree::Token;

@@ -1,2 +1,3 @@
-pub mod BoundExamples
-pub mod DigitFacts
+pub mod Lexemes
+pub mod Longest
+pub mod TokenLaws

@@ -1,5 +1,6 @@
 pub mod Bounds
 pub mod Digits
+pub mod Fronts
 pub mod Literals
 pub mod Names
 pub mod Needs

@@ -1,0 +1,73 @@
+ghost use Rattle.std.specs.Prelude.{◌≡◌, ◌<◌, ℕ, List, ◌∷◌, ◌==◌, MatchOption, IsTrue, false};
+ghost use Rattle.std.specs.List.{list_all};
+ghost use Rattle.frp_tree.specs.Names.{is_digit};
+ghost use Rattle.frp_tree.specs.Tokens.{is_hex_digit, digit_value, value_after};
+ghost use Rattle.frp_tree.specs.Fronts.{begins};
+ghost use Rattle.efrp_syntax.specs.Pieces.{fitting, IsNumberFront};
+
+use crate::classes::Class;
+
+/// What a digit of either case stands for.
+fn digit_value(byte: u8) -> u16
+    requires { IsTrue (is_hex_digit byte) }
+    ensures { result ≡ digit_value byte }
+{
+    let value = match byte {
+        b'0'..=b'9' => byte - b'0',
+        b'A'..=b'F' => byte - b'A' + 10,
+        _ => byte - b'a' + 10,
+    };
+    u16::from(value)
+}
+
+/// The number that digits spell in a base, and None exactly where it is above 65,535.
+fn value(base: u16, digits: &[u8]) -> Option<u16>
+    requires base { 0 < base }
+    requires digits { IsTrue (list_all is_hex_digit digits.now) }
+    ensures { result ≡ fitting (value_after base 0 digits.now) }
+{
+    let mut value: u16 = 0;
+    for digit in digits {
+        value = value.checked_mul(base)?.checked_add(digit_value(*digit))?;
+    }
+    Some(value)
+}
+
+/// What follows `0x`, where the text begins with that and a hexadecimal digit.
+fn behind_prefix(text: &[u8]) -> Option<&[u8]>
+    ensures { MatchOption result
+        ((digits : List ℕ) → text.now ≡ 48 ∷ 120 ∷ digits → begins is_hex_digit digits ≡ false)
+        (λ digits. (text.now ≡ 48 ∷ 120 ∷ digits.now) × IsTrue (begins is_hex_digit digits.now)) }
+{
+    match text {
+        [b'0', b'x', digits @ ..] if Class::HexDigit.begins(digits) => Some(digits),
+        _ => None,
+    }
+}
+
+/// The number at the front of a text, and None for one above 65,535; and what follows it.
+pub fn number(text: &[u8]) -> (Option<u16>, &[u8])
+    requires { IsTrue (begins is_digit text.now) }
+    ensures { IsNumberFront text.now result.0 result.1.now }
+{
+    match behind_prefix(text) {
+        Some(behind) => {
+            let (digits, rest) = Class::HexDigit.run(behind);
+            (value(16, digits), rest)
+        }
+        None => {
+            let (digits, rest) = Class::Digit.run(text);
+            (value(10, digits), rest)
+        }
+    }
+}
+
+/// What follows the suffix `w`, where the text begins with it.
+pub fn behind_suffix(text: &[u8]) -> Option<&[u8]>
+    ensures { MatchOption result (begins (λ b. b == 119) text.now ≡ false) (λ rest. text.now ≡ 119 ∷ rest.now) }
+{
+    match text {
+        [b'w', rest @ ..] => Some(rest),
+        _ => None,
+    }
+}
