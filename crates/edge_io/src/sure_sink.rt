@@ -1,0 +1,48 @@
+ghost use Rattle.std.specs.Prelude.{◌≡◌, [], Some};
+
+use crate::faults::PutFault;
+use crate::outside::Sink;
+use std::alloc::Global;
+use std::marker::Model;
+
+/// A sink in memory that never fails: no put answers `Failed`.
+#[derive(Debug, Drop)]
+pub struct SureSink {
+    taken: Vec<u8>,
+}
+
+impl Model for SureSink {
+    ghost use Rattle.std.specs.Prelude.{ℕ, List};
+
+    ghost Value = { List ℕ };
+
+    ghost view = { λ s. s.taken.items };
+}
+
+impl SureSink {
+    /// A sink with no bytes. Takes no memory.
+    pub fn new(alloc: Global) -> SureSink
+        ensures { result ≡ [] }
+    {
+        SureSink {
+            taken: Vec::new(alloc),
+        }
+    }
+
+    /// The bytes that were taken, in order. Takes no memory.
+    pub fn taken(&self) -> &[u8]
+        ensures { result.now ≡ self.now }
+    {
+        self.taken.as_slice()
+    }
+}
+
+impl Sink for SureSink {
+    ghost taken = { λ s. Some s };
+
+    ghost put_faults = { λ _. 0 };
+
+    fn put(&mut self, _alloc: Global, bytes: &[u8]) -> Result<(), PutFault> {
+        Ok(self.taken.extend_from_slice(bytes)?)
+    }
+}
