@@ -6,8 +6,9 @@ ghost use Rattle.hex_file.specs.Written.{check_byte, line, record_of};
 use std::alloc::{AllocError, Global};
 use std::fmt::Write;
 
-/// The types of the records that are written.
-#[derive(Clone, Copy, Debug)]
+/// The types of the records that are written, with their numbers in Intel's specification. The bytes of a
+/// `LinearAddress` are the upper 16 bits of the byte addresses behind it.
+#[derive(Clone, Copy)]
 pub enum Kind {
     Data = 0,
     EndOfFile = 1,
@@ -32,7 +33,7 @@ fn push_byte(text: &mut String, byte: u8) -> Result<(), AllocError>
     write!(text, "{byte:02X}")
 }
 
-/// Appends the line of a record with these bytes.
+/// Appends the line of a record: its bytes, check byte included, behind a colon.
 fn push_line(text: &mut String, bytes: &[u8]) -> Result<(), AllocError>
     ensures { OnOk result (string_bytes text.new ≡ string_bytes text.old ++ line bytes.now) }
 {
@@ -43,7 +44,8 @@ fn push_line(text: &mut String, bytes: &[u8]) -> Result<(), AllocError>
     text.push('\n')
 }
 
-/// Appends a record of this type, at this byte address, with these bytes, of which there are at most 255.
+/// Appends a record of this type, at this byte address, with these bytes of data, at most 255. An `Err` is want
+/// of memory.
 pub fn push_record(
     alloc: Global,
     text: &mut String,
@@ -60,8 +62,8 @@ pub fn push_record(
     push_line(text, &record)
 }
 
-/// The first four bytes of a record: how many bytes of data it has, its address with the high byte first, and
-/// its type.
+/// The bytes of a record before its data: how many bytes of data there are, the address, high byte first, and
+/// the type.
 #[tactic(auto, using(crate::proofs::ByteFacts::be_word_bytes))]
 fn head(kind: Kind, address: u16, count: u8) -> [u8; 4]
     ensures { result ≡ count ∷ address / 256 ∷ address % 256 ∷ code kind ∷ [] }

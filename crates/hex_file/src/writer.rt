@@ -8,14 +8,14 @@ use frp_tree::List;
 use std::alloc::{AllocError, Global};
 
 /// How many words of program memory one record holds at most.
-const WORDS_A_RECORD: usize = 8;
+const WORDS_PER_RECORD: usize = 8;
 
 /// The byte address of the configuration word.
 const CONFIG_ADDRESS: u16 = 0x400E;
 
 /// The written form of an image: the record of the high address, the data records, the record of the
-/// configuration word, where there is one, and the end record. Bytes aside aren't written. An `Err` is want
-/// of memory.
+/// configuration word, where there is one, and the end record. Bytes aside aren't written. Words stand at
+/// rising addresses below 8,192 and have 14 bits, as the configuration word has. An `Err` is want of memory.
 #[tactic(auto, using(crate::proofs::Rises::below_8192))]
 pub fn write(alloc: Global, image: &Image) -> Result<List<u8>, AllocError>
     requires { IsWritable image.now }
@@ -29,7 +29,7 @@ pub fn write(alloc: Global, image: &Image) -> Result<List<u8>, AllocError>
     Ok(List::from_vec(text.into_bytes()))
 }
 
-/// Appends the data records of words at rising addresses.
+/// Appends the data records of these words.
 fn push_data(alloc: Global, text: &mut String, words: &[Word]) -> Result<(), AllocError>
     requires { All (λ w. w.address < 8192) words.now }
     ensures { OnOk result (string_bytes text.new ≡ string_bytes text.old ++ data_records words.now) }
@@ -52,7 +52,7 @@ fn record_len(words: &[Word]) -> usize
     ensures within { result ≤ length words.now }
     ensures records { data_records words.now ≡ words_record (take result words.now) ++ data_records (drop result words.now) }
 {
-    let most = words.len().min(WORDS_A_RECORD);
+    let most = words.len().min(WORDS_PER_RECORD);
     let mut count = 1;
     while count < most && words[count].address == words[count - 1].address + 1 {
         count += 1;
