@@ -1,5 +1,1 @@
-pub mod BoundExamples
 pub mod DigitFacts
-pub mod Lexemes
-pub mod Longest
-pub mod TokenLaws

@@ -5,6 +5,7 @@
 #![tactic(auto)]
 
 mod images;
+mod records;
 mod writer;
 
 pub use images::{Aside, Image, Word};
