@@ -1,1 +1,5 @@
+pub mod BoundExamples
 pub mod DigitFacts
+pub mod Lexemes
+pub mod Longest
+pub mod TokenLaws
