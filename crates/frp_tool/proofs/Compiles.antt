@@ -1,10 +1,9 @@
 -- The steps of `compile`, put together.
-use Rattle.std.proofs.Common.{◌≡◌, ◌≢◌, ℕ, ◌<◌, ◌≤◌, List, Option, Some, None, Ok, Err, length, ◌⊎◌, inl, inr, arith, refl, sym, ◌∙◌, subst}
+use Rattle.std.proofs.Common.{◌≡◌, ℕ, ◌<◌, ◌≤◌, List, Option, Some, None, Ok, Err, length, inl, inr, arith, refl, ◌∙◌, subst}
 use Rattle.edge_io.specs.declared.outside.TheConstants.{LONGEST_FILE}
-use Rattle.edge_io.specs.Files.{ReadGives, Held, SameFiles, SameOthers, Replaces, BothTold, IfTold, KeepsFiles}
+use Rattle.edge_io.specs.Files.{ReadGives, Held, SameFiles, BothTold, IfTold, KeepsFiles}
 use Rattle.edge_io.specs.declared.faults.ReadFault.{ReadFault}
 use Rattle.edge_io.specs.declared.faults.ReadFault.TheVariants as read
-use Rattle.edge_io.specs.Counts.{Rose}
 use Rattle.hex_file.specs.Written.{written}
 use Rattle.map_file.specs.MapText.{map_text}
 use Rattle.firmware.specs.declared.counters.Counter.{Counter}
@@ -12,8 +11,8 @@ use Rattle.firmware.specs.Counters.{Spells, program_of}
 use Rattle.frp_tool.specs.Lines.{summary}
 use Rattle.firmware.specs.Layout.{image_of}
 use Rattle.firmware.specs.Maps.{map_of}
-use Rattle.frp_tool.specs.Steps.{Ends, Has, SameButTwo, Stores, StoresMap}
-use Rattle.frp_tool.specs.Answers.{Request, Missing, ReadFailed, TooLong, NoForm, HexFailed, MapFailed, Done, OfSource, SourceSpells, Compiles, CompilesText, outside}
+use Rattle.frp_tool.specs.Steps.{Ends, Stores}
+use Rattle.frp_tool.specs.Answers.{Request, NoForm, HexFailed, MapFailed, Done, OfSource, Compiles, CompilesText, outside}
 
 pub keeps_refl : (files : Option Held) → KeepsFiles files files
 keeps_refl None = tt
@@ -35,8 +34,8 @@ pub stores_same : (hex map : List ℕ) (h h' m m' line line' : List ℕ) (files 
     → h ≡ h' → m ≡ m' → line ≡ line' → Stores hex h map m line files files' writes writes' taken taken' puts puts' status → Stores hex h' map m' line' files files' writes writes' taken taken' puts puts' status
 stores_same hex map h h' m m' line line' files files' writes writes' taken taken' puts puts' status a b c stores =
     subst (λ (x : List ℕ). Stores hex h' map m' x files files' writes writes' taken taken' puts puts' status) c
-        (subst (λ (x : List ℕ). Stores hex h' map x line files files' writes writes' taken taken' puts puts' status) b
-            (subst (λ (x : List ℕ). Stores hex x map m line files files' writes writes' taken taken' puts puts' status) a stores))
+    (subst (λ (x : List ℕ). Stores hex h' map x line files files' writes writes' taken taken' puts puts' status) b
+    (subst (λ (x : List ℕ). Stores hex x map m line files files' writes writes' taken taken' puts puts' status) a stores))
 
 -- What is said of the text that was read is said of the source.
 of_source : (r : Request) (files : Option Held) (reads writes puts : ℕ) (taken : Option (List ℕ)) (text : List ℕ) (P : List ℕ → Type 0)
@@ -45,7 +44,6 @@ of_source r None reads writes puts taken text P told p = tt
 of_source r (Some held) reads writes puts taken text P told p = (text, told, p)
 
 module _ (r : Request) (files0 files1 files2 : Option Held) (reads reads' writes0 writes1 writes2 : ℕ) (taken taken' : Option (List ℕ)) (puts puts' status : ℕ) (text : List ℕ) where
-
   stored : IfTold files0 (λ held. held r.source ≡ Some text) → KeepsFiles files0 files1 → writes0 ≤ writes1 → (c : Counter) → Spells text c → (line : List ℕ) → line ≡ summary (map_of c) (program_of c)
       → Stores r.hex (written (image_of c)) r.map (map_text (map_of c)) line files1 files2 writes1 writes2 taken taken' puts puts' status
       → Compiles r (outside files0 reads writes0 taken puts) (outside files2 reads' writes2 taken' puts') status
@@ -57,8 +55,12 @@ module _ (r : Request) (files0 files1 files2 : Option Held) (reads reads' writes
   stored told keeps fewer c spells line is (inr (inr (inl (rose, part, ends)))) =
       inr (MapFailed c, (of_source r files0 reads writes0 puts taken text _ told spells, omega (arith, rose)), behind files0 files1 files2 _ _ (λ old mid new h k. (k.0, λ name one two. k.1 name one two ∙ h name)) keeps part, ends)
   stored told keeps fewer c spells line is (inr (inr (inr (part, ends)))) =
-      inr (Done c, of_source r files0 reads writes0 puts taken text _ told spells, behind files0 files1 files2 _ _ (λ old mid new h k. (k.0, k.1, λ name one two. k.2 name one two ∙ h name)) keeps part,
-          subst (λ (x : List ℕ). Ends taken taken' puts puts' 0 x status) is ends)
+      inr (
+        Done c,
+        of_source r files0 reads writes0 puts taken text _ told spells,
+        behind files0 files1 files2 _ _ (λ old mid new h k. (k.0, k.1, λ name one two. k.2 name one two ∙ h name)) keeps part,
+        subst (λ (x : List ℕ). Ends taken taken' puts puts' 0 x status) is ends,
+      )
 
   pub compiled : IfTold files0 (λ held. held r.source ≡ Some text) → length text ≤ LONGEST_FILE → KeepsFiles files0 files1 → writes0 ≤ writes1
       → CompilesText text r.hex r.map files1 files2 writes1 writes2 taken taken' puts puts' status

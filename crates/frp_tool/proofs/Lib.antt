@@ -1,4 +1,5 @@
 pub mod Compiles
 pub mod Reading
 pub mod Sources
+pub mod StatusLaws
 pub mod Summaries

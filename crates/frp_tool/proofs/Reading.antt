@@ -1,5 +1,5 @@
 -- An item's tokens begin a list of tokens in one way.
-use Rattle.std.proofs.Common.{◌≡◌, ◌≢◌, ℕ, ◌<◌, false, List, [], ◌∷◌, ◌++◌, length, Option, IfSome, arith, refl, subst, ap, ◌∙◌}
+use Rattle.std.proofs.Common.{◌≡◌, ◌≢◌, ℕ, ◌<◌, false, List, [], ◌∷◌, ◌++◌, length, Option, IfSome, refl, subst, ap, ◌∙◌}
 use Rattle.std.specs.List.{AllByRecursion}
 use Rattle.std.proofs.lemmas.List.{nil_from_length}
 use Rattle.frp_tree.specs.Names.{is_keyword}
@@ -31,7 +31,6 @@ output_once tokens rest rest' port port' name name' a b = (cc, cc)
 
 -- What was read is a program of the first form, where its parts agree.
 module _ (tokens t1 t2 t3 t4 t5 : List Token) (event decl clause_event clause_name output_name : List ℕ) (source : Source) (priority init step port : ℕ) (setup : Option SetupAt) where
-
   abbrev read : Counter
   read = record { event = event; source = source; priority = priority; setup = setup; name = decl; init = init; step = step; port = port }
 
@@ -52,7 +51,7 @@ pub read_counter : (tokens t1 t2 t3 : List Token) (event decl : List ℕ) (sourc
     → IsEventItem event priority → IfSome setup IsSetup → is_keyword decl ≡ false → port < 5 → init < 256 → step < 256 → event ≢ decl → IsCounter (record { event = event; source = source; priority = priority; setup = setup; name = decl; init = init; step = step; port = port })
 read_counter tokens t1 t2 t3 event decl source priority init step port setup all e1 e2 e3 event_item setup_item no_keyword in_ports init_small step_small differ =
     let behind : AllByRecursion IsWellFormed (event_tokens event (source_name source) priority ++ (optional_setup_tokens setup ++ (decl_tokens decl init ++ t3))) =
-        subst (λ (ts : List Token). AllByRecursion IsWellFormed ts) (e1 ∙ ap (λ rest. event_tokens event (source_name source) priority ++ rest) (e2 ∙ ap (λ rest. optional_setup_tokens setup ++ rest) e3)) all in
+    subst (λ (ts : List Token). AllByRecursion IsWellFormed ts) (e1 ∙ ap (λ rest. event_tokens event (source_name source) priority ++ rest) (e2 ∙ ap (λ rest. optional_setup_tokens setup ++ rest) e3)) all in
     record {
       event = behind.1.0;
       event_no_keyword = event_item.no_keyword;

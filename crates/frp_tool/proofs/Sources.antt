@@ -1,6 +1,6 @@
 -- The words of a text are names, and a text spells one program of the first form at most.
-use Rattle.std.proofs.Common.{◌≡◌, ◌≢◌, ℕ, ◌≤◌, Bool, true, List, [], ◌∷◌, Option, Some, None, Result, Ok, Err, IfOk, length, arith, refl, sym, ◌∙◌, subst, ap}
-use Rattle.std.specs.Prelude.{MatchOption, IsTrue, nat_le, ◌&&◌}
+use Rattle.std.proofs.Common.{◌≡◌, ◌≢◌, ℕ, ◌≤◌, Bool, true, List, Option, Some, None, Result, Ok, Err, IfOk, length, sym, ◌∙◌, subst, ap}
+use Rattle.std.specs.Prelude.{MatchOption, nat_le, ◌&&◌}
 use Rattle.std.specs.List.{AllByRecursion}
 use Rattle.std.proofs.lemmas.Bool.{le-leb}
 use Rattle.frp_tree.specs.declared.tokens.Token.{Token}

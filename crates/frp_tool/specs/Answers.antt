@@ -1,4 +1,4 @@
-use Rattle.std.specs.Prelude.{◌≡◌, ◌≢◌, ℕ, ◌<◌, ◌≤◌, List, [], ◌∷◌, length, Option, Some, None, MatchOption, codes, ◌⊎◌}
+use Rattle.std.specs.Prelude.{◌≡◌, ℕ, ◌<◌, ◌≤◌, List, [], ◌∷◌, length, Option, Some, None, MatchOption, codes, ◌⊎◌}
 use Rattle.edge_io.specs.declared.outside.TheConstants.{LONGEST_FILE}
 use Rattle.edge_io.specs.Files.{Held, SameOthers, BothTold, IfTold, KeepsFiles}
 use Rattle.edge_io.specs.Counts.{Rose}
@@ -112,7 +112,7 @@ abbrev pub Exhausted : Request → Outside → Outside → ℕ → Type 0
 Exhausted r before after status =
     (status ≡ 6) × (before.taken ≡ after.taken)
     × (KeepsFiles before.files after.files
-        ⊎ ((c : Counter) × SourceSpells r before c × BothTold before.files after.files (λ old new. HexIsWhole r new c × SameOthers old new r.hex)))
+    ⊎ ((c : Counter) × SourceSpells r before c × BothTold before.files after.files (λ old new. HexIsWhole r new c × SameOthers old new r.hex)))
 
 -- How a call of `compile` ends: with a verdict, its cause, the files that it leaves and its line, or exhausted.
 abbrev pub Compiles : Request → Outside → Outside → ℕ → Type 0

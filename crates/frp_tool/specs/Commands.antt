@@ -1,4 +1,4 @@
-use Rattle.std.specs.Prelude.{ℕ, ◌^◌, Bool, true, false, ◌&&◌, not, ◌==◌, nat_le, nat_lt, List, [], ◌∷◌, length, Option, Some, None, option_map, codes, if◌then◌else◌}
+use Rattle.std.specs.Prelude.{ℕ, ◌^◌, Bool, false, ◌&&◌, not, ◌==◌, nat_le, nat_lt, List, [], ◌∷◌, length, Option, Some, None, codes, if◌then◌else◌}
 use Rattle.std.specs.List.{list_all}
 use Rattle.std.specs.Str.{bytes_eq}
 use Rattle.frp_tree.specs.Names.{is_digit}
@@ -25,8 +25,8 @@ command_of (name ∷ a ∷ []) = if bytes_eq name (codes "check") && is_operand 
 command_of (name ∷ a ∷ b ∷ []) = if bytes_eq name (codes "model") && is_operand a && is_operand b then Some Model else None
 command_of (name ∷ a ∷ b ∷ c ∷ []) =
     if is_operand a && is_operand b && is_operand c then (
-        if bytes_eq name (codes "compile") then (if differ a b && differ a c && differ b c then Some Compile else None)
-        else (if bytes_eq name (codes "run") then Some Run
-        else (if bytes_eq name (codes "big") && is_seed a && differ b c then Some (Big (value_after 10 0 a)) else None)))
+    if bytes_eq name (codes "compile") then (if differ a b && differ a c && differ b c then Some Compile else None)
+    else (if bytes_eq name (codes "run") then Some Run
+    else (if bytes_eq name (codes "big") && is_seed a && differ b c then Some (Big (value_after 10 0 a)) else None)))
     else None
 command_of _ = None

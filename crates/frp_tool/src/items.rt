@@ -13,11 +13,17 @@ use pic_isa::{Source, port_named, register_named, source_named};
 
 /// The numbers of the marks.
 const SEMICOLON: u8 = 0;
+
 const COLON: u8 = 1;
+
 const EQUALS: u8 = 2;
+
 const OPENING: u8 = 3;
+
 const CLOSING: u8 = 4;
+
 const ARROW: u8 = 7;
+
 const PLUS: u8 = 21;
 
 /// `event NAME = NAME priority NUM ;`

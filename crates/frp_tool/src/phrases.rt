@@ -92,9 +92,5 @@ pub fn byte<'a>(tokens: &'a [Token]) -> Option<(u8, &'a [Token])>
     ensures { MatchOption result ((n : ℕ) (rest : List Tokens) → n < 256 → tokens.now ≢ token.Num n ∷ rest) (λ found. (found.0 < 256) × (tokens.now ≡ token.Num found.0 ∷ found.1.now)) }
 {
     let (n, rest) = number(tokens)?;
-    if n < 256 {
-        Some((n as u8, rest))
-    } else {
-        None
-    }
+    if n < 256 { Some((n as u8, rest)) } else { None }
 }

@@ -7,6 +7,7 @@ ghost use Rattle.firmware.specs.Layout.{image_of};
 ghost use Rattle.firmware.specs.Maps.{map_of};
 ghost use Rattle.frp_tool.specs.Lines.{named_line, summary, summary_of};
 ghost use Rattle.frp_tool.specs.Answers.{Answers, Compiles, CompilesText, outside};
+ghost use Rattle.frp_tool.specs.Statuses.{Promises};
 ghost use Rattle.frp_tool.specs.Steps.{Ends, Stores, StoresMap};
 
 use crate::requests::request;
@@ -20,15 +21,22 @@ use std::fmt::Write;
 
 /// Statuses.
 const DONE: u8 = 0;
+
 const REFUSED: u8 = 1;
+
 const NO_COMMAND: u8 = 2;
+
 const MISSING: u8 = 3;
+
 const READ_FAILED: u8 = 4;
+
 const OUTSIDE_FAILED: u8 = 5;
+
 const NO_MEMORY: u8 = 6;
 
 /// What is put where the words form no command that is built.
-const USAGE: &str = "usage: efrp check SRC / compile SRC HEX MAP / run HEX MAP SCRIPT / model SRC EVENTS / big N HEX MAP\n";
+const USAGE: &str =
+    "usage: efrp check SRC / compile SRC HEX MAP / run HEX MAP SCRIPT / model SRC EVENTS / big N HEX MAP\n";
 
 /// The levels of interrupts that the chip's return stack has room for.
 const MOST_LEVELS: u32 = 8;
@@ -101,8 +109,18 @@ fn summary_line(alloc: Global, map: &Map, limits: Limits) -> Result<String, Allo
     ensures { IfOk result (λ line. string_bytes line ≡ summary_of map.now limits.words limits.ram limits.settle) }
 {
     let mut text = String::new(alloc);
-    add_bounded(&mut text, "words ", u32::from(map.words), u32::from(limits.words))?;
-    add_bounded(&mut text, " ram ", u32::from(map.ram), u32::from(limits.ram))?;
+    add_bounded(
+        &mut text,
+        "words ",
+        u32::from(map.words),
+        u32::from(limits.words),
+    )?;
+    add_bounded(
+        &mut text,
+        " ram ",
+        u32::from(map.ram),
+        u32::from(limits.ram),
+    )?;
     add_bounded(&mut text, " depth ", u32::from(map.depth), MOST_LEVELS)?;
     add_bounded(&mut text, " settle ", map.settle, limits.settle)?;
     text.push_str("\n")?;
@@ -197,10 +215,8 @@ fn compile<F: Files, S: Sink>(
     }
 }
 
-/// Does the command that the words form, and answers its status: 0 done; 1 refused, and one line that says why was put;
-/// 2 the words form no command that is built, and the usage line was put; 3 a file to read isn't there; 4 a read failed;
-/// 5 a write or a put failed; 6 memory ran out. The words are those of a command line without the program's name.
-pub fn efrp<F: Files, S: Sink>(alloc: Global, words: &[Text], files: &mut F, out: &mut S) -> u8
+// Does the command that the words form, and answers its status.
+fn answered<F: Files, S: Sink>(alloc: Global, words: &[Text], files: &mut F, out: &mut S) -> u8
     ensures { Answers words.now
         (outside (F.files files.old) (F.read_faults files.old) (F.write_faults files.old) (S.taken out.old) (S.put_faults out.old))
         (outside (F.files files.new) (F.read_faults files.new) (F.write_faults files.new) (S.taken out.new) (S.put_faults out.new)) result }
@@ -209,4 +225,15 @@ pub fn efrp<F: Files, S: Sink>(alloc: Global, words: &[Text], files: &mut F, out
         Some(names) => compile(alloc, names.source, names.hex, names.map, files, out),
         None => say(alloc, out, NO_COMMAND, USAGE),
     }
+}
+
+/// Does the command that the words form, and answers its status: 0 done; 1 refused, and one line that says why was put;
+/// 2 the words form no command that is built, and the usage line was put; 3 a file to read isn't there; 4 a read failed;
+/// 5 a write or a put failed; 6 memory ran out. The words are those of a command line without the program's name.
+pub fn efrp<F: Files, S: Sink>(alloc: Global, words: &[Text], files: &mut F, out: &mut S) -> u8
+    ensures { Promises words.now
+        (outside (F.files files.old) (F.read_faults files.old) (F.write_faults files.old) (S.taken out.old) (S.put_faults out.old))
+        (outside (F.files files.new) (F.read_faults files.new) (F.write_faults files.new) (S.taken out.new) (S.put_faults out.new)) result }
+{
+    answered(alloc, words, files, out)
 }

@@ -1,6 +1,6 @@
-use Rattle.std.proofs.Common.{[], ◌∷◌, ◌++◌, refl, sym, arith}
+use Rattle.std.proofs.Common.{[], refl, sym}
 use Rattle.std.proofs.lemmas.Bool.{eqb-true}
-use Rattle.frp_tool.proofs.Reading.{event_once, decl_once, clause_once, output_once, read_as, read_counter}
+use Rattle.frp_tool.proofs.Reading.{event_once, decl_once, clause_once, read_as, read_counter}
 use Rattle.frp_tool.proofs.first_form.counter.Goals as goal
 
 pub returns-in_default : goal.returns-in_default
@@ -35,6 +35,7 @@ returns c =
     let decl = c.in-Some-decl_item.ensures in
     let output = c.in-Some-output_item.ensures in
     let clause = c.in-Some-clause_item.ensures in
-    rw (c.in_ok-copy.ensures, c.in_ok-copy-2.ensures, c.in_ok-setup_at.ensures)
-        (read_counter c.args.tokens.now _ _ _ _ _ _ _ _ _ _ _ c.requires event.1 setup.1 decl.2 event.0 setup.0 decl.0 output.0 decl.1 clause.0 agreed.0,
-        read_as c.args.tokens.now _ _ _ _ _ _ _ _ _ _ _ _ _ _ _ _ event.1 setup.1 decl.2 clause.1 output.1 (eqb-true _ 0 (sym c.if-not-is_empty.ensures)) agreed)
+    rw (c.in_ok-copy.ensures, c.in_ok-copy-2.ensures, c.in_ok-setup_at.ensures) (
+      read_counter c.args.tokens.now _ _ _ _ _ _ _ _ _ _ _ c.requires event.1 setup.1 decl.2 event.0 setup.0 decl.0 output.0 decl.1 clause.0 agreed.0,
+      read_as c.args.tokens.now _ _ _ _ _ _ _ _ _ _ _ _ _ _ _ _ event.1 setup.1 decl.2 clause.1 output.1 (eqb-true _ 0 (sym c.if-not-is_empty.ensures)) agreed,
+    )

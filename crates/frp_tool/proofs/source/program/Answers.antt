@@ -1,4 +1,4 @@
-use Rattle.std.proofs.Common.{subst, sym, ◌≡◌, ◌∙◌, List, Bool, true, false}
+use Rattle.std.proofs.Common.{subst, sym, ◌≡◌, ◌∙◌, List, true, false}
 use Rattle.std.specs.List.{AllByRecursion}
 use Rattle.frp_tree.specs.declared.tokens.Token.{Token}
 use Rattle.frp_tree.specs.Tokens.{HasTokens}
@@ -15,8 +15,8 @@ counter-requires c =
 pub returns : goal.returns
 returns c =
     spelled c.args.text.now c.as_slice.result.now c.counter.result
-        (subst (λ (ts : List Token). HasTokens c.args.text.now ts) (sym c.as_slice.ensures) c.in-Ok.ensures.lexed)
-        (λ others has. c.in-Ok.ensures.only others has ∙ sym c.as_slice.ensures) c.counter.ensures
+    (subst (λ (ts : List Token). HasTokens c.args.text.now ts) (sym c.as_slice.ensures) c.in-Ok.ensures.lexed)
+    (λ others has. c.in-Ok.ensures.only others has ∙ sym c.as_slice.ensures) c.counter.ensures
 
 pub returns-else-is_memory : goal.returns-else-is_memory
 returns-else-is_memory c = λ c' spells. let impossible : false ≡ true = c.if-is_memory.ensures.1 (c.in-Err.ensures.none (tokens_of c') spells.1) in cc

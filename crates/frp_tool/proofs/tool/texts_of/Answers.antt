@@ -1,8 +1,6 @@
 use Rattle.std.proofs.Common.{◌∙◌, ap}
 use Rattle.hex_file.specs.Written.{written}
 use Rattle.map_file.specs.MapText.{map_text}
-use Rattle.firmware.specs.Counters.{program_of}
-use Rattle.frp_tool.specs.Lines.{summary, summary_of}
 use Rattle.frp_tool.proofs.Summaries.{summary_same}
 use Rattle.frp_tool.proofs.tool.texts_of.Goals as goal
 

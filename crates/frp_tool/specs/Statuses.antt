@@ -1,0 +1,63 @@
+use Rattle.std.specs.Prelude.{◌≡◌, ℕ, ◌<◌, List, length, Option, Some, None, ◌⊎◌}
+use Rattle.edge_io.specs.declared.outside.TheConstants.{LONGEST_FILE}
+use Rattle.edge_io.specs.Files.{Held, BothTold, IfTold, KeepsFiles}
+use Rattle.edge_io.specs.Sinks.{Appends}
+use Rattle.edge_io.specs.Counts.{Rose}
+use Rattle.firmware.specs.declared.counters.Counter.{Counter}
+use Rattle.firmware.specs.Counters.{Spells, program_of}
+use Rattle.firmware.specs.Maps.{map_of}
+use Rattle.frp_tool.specs.Lines.{summary}
+use Rattle.frp_tool.specs.Answers.{Answers, request_of, Outside, Request, OfSource, SourceSpells, HexIsWhole, MapIsWhole, OthersAsBefore}
+
+-- The status is this one, or 5 since its put failed, or 6 since memory ran out.
+abbrev pub DueOrYielded : ℕ → ℕ → Type 0
+DueOrYielded due status = (status ≡ due) ⊎ (status ≡ 5) ⊎ (status ≡ 6)
+
+-- 2 comes exactly where the words form no command that is built.
+abbrev pub TwoWhere : Option Request → ℕ → Type 0
+TwoWhere request status = (status ≡ 2 → request ≡ None) × (request ≡ None → DueOrYielded 2 status)
+
+-- 3 comes exactly where the source isn't held, where files are told.
+abbrev pub ThreeWhere : Option Request → Outside → ℕ → Type 0
+ThreeWhere request before status = (r : Request) → request ≡ Some r →
+    (status ≡ 3 → IfTold before.files (λ held. held r.source ≡ None)) × ((held : Held) → before.files ≡ Some held → held r.source ≡ None → DueOrYielded 3 status)
+
+-- 4 comes only where a read fault was counted, and 5 only where a fault of a write or of a put was.
+abbrev pub FaultWhere : Outside → Outside → ℕ → Type 0
+FaultWhere before after status =
+    (status ≡ 4 → Rose before.read_faults after.read_faults)
+    × (status ≡ 5 → Rose before.write_faults after.write_faults ⊎ Rose before.put_faults after.put_faults)
+
+-- 1 comes only where the source is too long or spells no program of the first form, where files are told.
+abbrev pub OneWhere : Option Request → Outside → ℕ → Type 0
+OneWhere request before status = (r : Request) → request ≡ Some r → status ≡ 1 → OfSource r before (λ text. (LONGEST_FILE < length text) ⊎ ((c : Counter) → Spells text c → ⊥))
+
+-- With 1 to 4 no file has changed, and with every status none but HEX and MAP has.
+abbrev pub FilesKept : Option Request → Outside → Outside → ℕ → Type 0
+FilesKept request before after status =
+    (0 < status → status < 5 → KeepsFiles before.files after.files)
+    × ((r : Request) → request ≡ Some r → BothTold before.files after.files (OthersAsBefore r))
+
+-- With 0 the source spells a program of the first form; HEX holds the written form of its image and MAP the text of its
+-- map; all other files are as before; and the summary was put.
+abbrev pub DoneMeans : Option Request → Outside → Outside → ℕ → Type 0
+DoneMeans request before after status = status ≡ 0 → (r : Request) × (request ≡ Some r) × (c : Counter) × SourceSpells r before c
+    × BothTold before.files after.files (λ old new. HexIsWhole r new c × MapIsWhole r new c × OthersAsBefore r old new)
+    × Appends before.taken after.taken (summary (map_of c) (program_of c))
+
+-- Where files are told, the source spells a program of the first form, and no fault is counted, the status is 0 or 6.
+abbrev pub Complete : Option Request → Outside → Outside → ℕ → Type 0
+Complete request before after status = (r : Request) (held : Held) (text : List ℕ) (c : Counter) → request ≡ Some r → before.files ≡ Some held → held r.source ≡ Some text → Spells text c
+    → (Rose before.read_faults after.read_faults → ⊥) → (Rose before.write_faults after.write_faults → ⊥) → (Rose before.put_faults after.put_faults → ⊥)
+    → (status ≡ 0) ⊎ (status ≡ 6)
+
+-- What a call promises: how it ends, and what follows for each status.
+pub record Promises (words : List (List ℕ)) (before after : Outside) (status : ℕ) : Type 0 where
+  pub answer : Answers words before after status
+  pub done : DoneMeans (request_of words) before after status
+  pub one : OneWhere (request_of words) before status
+  pub two : TwoWhere (request_of words) status
+  pub three : ThreeWhere (request_of words) before status
+  pub faults : FaultWhere before after status
+  pub files : FilesKept (request_of words) before after status
+  pub complete : Complete (request_of words) before after status
