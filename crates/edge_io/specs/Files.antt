@@ -37,9 +37,9 @@ IfTold (Some files) P = P files
 abbrev pub KeepsFiles : Option Held → Option Held → Type 0
 KeepsFiles old new = BothTold old new SameFiles
 
--- What a read answers, by what is held under the name. Each answer but `Memory` excludes the others, so
--- each comes exactly where its line holds, unless memory runs out. `Failed` comes only where a file of
--- at most the greatest length is held.
+-- What a read answers, by what is held under the name. No file, a file that is too long and one that isn't exclude one
+-- another, so `Missing` and `TooLong` come exactly where their lines hold, unless memory runs out. Where a file of at most
+-- the greatest length is held, the answer is its bytes or `Failed`.
 abbrev pub Answers : Option (List ℕ) → Result (List ℕ) ReadFault → Type 0
 Answers held (Ok bytes) = held ≡ Some bytes
 Answers held (Err read.Missing) = held ≡ None
@@ -47,6 +47,7 @@ Answers held (Err read.TooLong) = (bytes : List ℕ) × (held ≡ Some bytes) ×
 Answers held (Err read.Failed) = (bytes : List ℕ) × (held ≡ Some bytes) × (length bytes ≤ LONGEST_FILE)
 Answers held (Err read.Memory) = Unit {0}
 
+-- The same where the files are told; where they aren't, any answer may come.
 abbrev pub ReadGives : Option Held → List ℕ → Result (List ℕ) ReadFault → Type 0
 ReadGives files name answer = IfTold files (λ held. Answers (held name) answer)
 

@@ -1,0 +1,97 @@
+use edge_io::{MemFiles, MemSink};
+use frp_tool::efrp;
+use frp_tree::{List, Text};
+use std::alloc::{AllocError, Global};
+
+/// What stands under a name after a call.
+#[derive(Clone, Copy, Debug, PartialEq, Eq)]
+pub enum Found {
+    Absent,
+    Whole,
+    Other,
+}
+
+/// How a call ended: its status, and what it left under the names of HEX and MAP.
+pub type Ended = (u8, Found, Found);
+
+/// A call: its words, the source, where it is there, the numbers of the calls of files and of the sink that fail,
+/// whole HEX and MAP, and what it is to put.
+#[derive(Clone, Copy, Debug)]
+pub struct Call<'a> {
+    pub words: &'a [&'a str],
+    pub source: Option<&'a [u8]>,
+    pub files: &'a [u32],
+    pub puts: &'a [u32],
+    pub hex: &'a str,
+    pub map: &'a str,
+    pub put: &'a str,
+}
+
+/// The status where memory ran out.
+const NO_MEMORY: u8 = 6;
+
+/// The names of the files.
+pub const SOURCE: &str = "b.frp";
+
+pub const HEX: &str = "b.hex";
+
+pub const MAP: &str = "b.map";
+
+fn numbers(alloc: Global, items: &[u32]) -> Result<List<u32>, AllocError> {
+    let mut list = List::new(alloc);
+    list.extend_from_slice(items)?;
+    Ok(list)
+}
+
+fn texts(alloc: Global, words: &[&str]) -> Result<List<Text>, AllocError> {
+    let mut list = List::new(alloc);
+    for word in words {
+        list.push(Text::new(alloc, word)?)?;
+    }
+    Ok(list)
+}
+
+fn left_under(files: &MemFiles, name: &str, whole: &str) -> Found {
+    match files.file(name) {
+        None => Found::Absent,
+        Some(bytes) if bytes == whole.as_bytes() => Found::Whole,
+        Some(_) => Found::Other,
+    }
+}
+
+// Makes a call, and tells how it ended and whether just this was put. An `Err` says that memory ran out before it.
+fn attempt(alloc: Global, call: &Call<'_>) -> Result<(Ended, bool), AllocError> {
+    let words = texts(alloc, call.words)?;
+    let mut files = MemFiles::new(alloc, numbers(alloc, call.files)?);
+    let mut out = MemSink::new(alloc, numbers(alloc, call.puts)?);
+    if let Some(bytes) = call.source {
+        files.place(alloc, SOURCE, bytes)?;
+    }
+    let status = efrp(alloc, words.as_slice(), &mut files, &mut out);
+    let ended = (
+        status,
+        left_under(&files, HEX, call.hex),
+        left_under(&files, MAP, call.map),
+    );
+    Ok((ended, out.taken() == call.put.as_bytes()))
+}
+
+// What status 6 may leave: nothing, or HEX, or both.
+fn may_run_out(ended: Ended) -> bool {
+    let (_, hex, map) = ended;
+    hex == Found::Absent && map == Found::Absent || hex == Found::Whole && map != Found::Other
+}
+
+/// Whether a call ends so and puts just its line. Where memory ran out, which it does once at most, the call is
+/// made again.
+pub fn ends(alloc: Global, call: &Call<'_>, want: Ended) -> bool {
+    if let Ok((ended, put)) = attempt(alloc, call) {
+        if ended.0 != NO_MEMORY {
+            return ended == want && put;
+        }
+        if !may_run_out(ended) {
+            return false;
+        }
+    }
+    attempt(alloc, call) == Ok((want, true))
+}

@@ -1,0 +1,168 @@
+use crate::calls::{Call, Ended, Found, HEX, MAP, SOURCE, ends};
+use std::alloc::{AllocError, Global};
+
+/// A counter of one event.
+const COUNTER: &str = "event Tick = INT priority 1;
+setup TRISB = 0;
+let n : u8 = init 0 in { Tick => n + 1; };
+output PORTB = n;
+";
+
+/// Its firmware and its map.
+const COUNTER_HEX: &str = ":020000040000FA
+:100000000030A00083160A288B1001302007A000C2
+:10001000860009000030860083120B168B170F280C
+:02400E003A3F37
+:00000001FF
+";
+
+const COUNTER_MAP: &str = "efrp map 1
+event Tick INT 1 open 0007 commit 0008
+state n u8 020
+output PORTB
+ready 000F
+regs 003-003
+regs 006-006
+regs 00B-00B
+regs 020-020
+regs 086-086
+report depth 1 ram 1 words 16 settle 586
+";
+
+const SUMMARY: &str = "words 16 of 308 ram 1 of 11 depth 1 of 8 settle 586 of 586\n";
+
+const USAGE: &str =
+    "usage: efrp check SRC / compile SRC HEX MAP / run HEX MAP SCRIPT / model SRC EVENTS / big N HEX MAP\n";
+
+/// A program with two definitions, one of them with `later`.
+const TWO_DEFINITIONS: &str =
+    "event Tick = INT priority 1; let a : u8 = init 5 in { Tick => a + 1 later; }; let b : u8 = init 0 in { Tick => a; }; output PORTB = a;";
+
+// A compile of this source that puts this.
+fn compile<'a>(source: Option<&'a [u8]>, put: &'a str) -> Call<'a> {
+    Call {
+        words: &["compile", SOURCE, HEX, MAP],
+        source,
+        files: &[],
+        puts: &[],
+        hex: COUNTER_HEX,
+        map: COUNTER_MAP,
+        put,
+    }
+}
+
+// The counter's text, with blanks behind it up to a length.
+fn padded(alloc: Global, length: usize) -> Result<Vec<u8>, AllocError> {
+    let mut text = Vec::new(alloc);
+    text.extend_from_slice(COUNTER.as_bytes())?;
+    text.resize(length, b' ')?;
+    Ok(text)
+}
+
+#[test]
+fn compiles_a_counter(rt: HostRuntime) {
+    let call = compile(Some(COUNTER.as_bytes()), SUMMARY);
+    assert!(rt; ends(rt.alloc(), &call, (0, Found::Whole, Found::Whole)));
+}
+
+#[test]
+fn refuses_what_is_no_counter(rt: HostRuntime) {
+    for source in [TWO_DEFINITIONS, ""] {
+        let call = compile(Some(source.as_bytes()), "refused: form\n");
+        assert!(rt; ends(rt.alloc(), &call, (1, Found::Absent, Found::Absent)));
+    }
+}
+
+#[test]
+fn says_what_is_missing(rt: HostRuntime) {
+    let call = compile(None, "missing: b.frp\n");
+    assert!(rt; ends(rt.alloc(), &call, (3, Found::Absent, Found::Absent)));
+}
+
+#[test]
+fn says_which_call_failed(rt: HostRuntime) {
+    let source = Some(COUNTER.as_bytes());
+    let cases: [(&[u32], &[u32], &str, Ended); 4] = [
+        (
+            &[0],
+            &[],
+            "read failed: b.frp\n",
+            (4, Found::Absent, Found::Absent),
+        ),
+        (
+            &[1],
+            &[],
+            "write failed: b.hex\n",
+            (5, Found::Absent, Found::Absent),
+        ),
+        (
+            &[2],
+            &[],
+            "write failed: b.map\n",
+            (5, Found::Whole, Found::Absent),
+        ),
+        (&[], &[0], "", (5, Found::Whole, Found::Whole)),
+    ];
+    for (files, puts, put, want) in cases {
+        let mut call = compile(source, put);
+        call.files = files;
+        call.puts = puts;
+        assert!(rt; ends(rt.alloc(), &call, want), "{put}");
+    }
+}
+
+// Whether these words are answered with the usage line.
+fn form_no_command(alloc: Global, words: &[&str]) -> bool {
+    let call = Call {
+        words,
+        source: Some(COUNTER.as_bytes()),
+        files: &[],
+        puts: &[],
+        hex: COUNTER_HEX,
+        map: COUNTER_MAP,
+        put: USAGE,
+    };
+    ends(alloc, &call, (2, Found::Absent, Found::Absent))
+}
+
+#[test]
+fn answers_other_words_with_the_usage_line(rt: HostRuntime) {
+    let alloc = rt.alloc();
+    assert!(rt; form_no_command(alloc, &[]));
+    assert!(rt; form_no_command(alloc, &["--help"]));
+    assert!(rt; form_no_command(alloc, &["compile", SOURCE, HEX]));
+    assert!(rt; form_no_command(alloc, &["compile", SOURCE, "", MAP]));
+    assert!(rt; form_no_command(alloc, &["compile", SOURCE, "-o", MAP]));
+    assert!(rt; form_no_command(alloc, &["compile", SOURCE, HEX, HEX]));
+}
+
+#[test]
+fn answers_commands_to_come_with_the_usage_line(rt: HostRuntime) {
+    let alloc = rt.alloc();
+    assert!(rt; form_no_command(alloc, &["check", SOURCE]));
+    assert!(rt; form_no_command(alloc, &["run", HEX, MAP, "b.script"]));
+    assert!(rt; form_no_command(alloc, &["model", SOURCE, "b.events"]));
+    assert!(rt; form_no_command(alloc, &["big", "7", HEX, MAP]));
+}
+
+// Whether a counter that blanks make this long ends so.
+fn long_ends(alloc: Global, length: usize, put: &str, want: Ended) -> bool {
+    let Ok(text) = padded(alloc, length).or_else(|_| padded(alloc, length)) else {
+        return false;
+    };
+    ends(alloc, &compile(Some(text.as_slice()), put), want)
+}
+
+#[test]
+fn keeps_the_limits_on_lengths(rt: HostRuntime) {
+    let refused = (1, Found::Absent, Found::Absent);
+    let cases = [
+        (65_536, SUMMARY, (0, Found::Whole, Found::Whole)),
+        (65_537, "refused: form\n", refused),
+        (1_048_576, "refused: form\n", refused),
+        (1_048_577, "refused: long b.frp\n", refused),
+    ];
+    for (length, put, want) in cases {
+        assert!(rt; long_ends(rt.alloc(), length, put, want), "{length}");
+    }
+}

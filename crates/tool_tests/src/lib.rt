@@ -1,0 +1,8 @@
+//! Tests that cross crates: whole calls of the tool, over files and a sink in memory. Each runs with ample memory
+//! and with any one allocation made to fail, which it takes for what it is.
+#![tactic(auto)]
+
+#[cfg(test)]
+mod calls;
+#[cfg(test)]
+mod compile_tests;
