@@ -3,5 +3,8 @@ pub mod DigitFacts
 pub mod LargeBoundExamples
 pub mod Lexemes
 pub mod Longest
+pub mod MeaningExamples
+pub mod MeaningLaws
+pub mod OperatorExamples
 pub mod Programs
 pub mod TokenLaws
