@@ -1,5 +1,6 @@
 pub mod BoundExamples
 pub mod DigitFacts
+pub mod FirstForm
 pub mod LargeBoundExamples
 pub mod Lexemes
 pub mod Longest

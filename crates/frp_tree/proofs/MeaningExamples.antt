@@ -43,6 +43,9 @@ circle_begins = refl
 pub circle_reacts : react circle (1 ∷ 2 ∷ []) go ≡ reaction (3 ∷ 2 ∷ []) []
 circle_reacts = refl
 
+pub circle_from_any_state : (x y : ℕ) → react circle (x ∷ y ∷ []) go ≡ reaction (((x + x) % 256 + 1) % 256 ∷ (x + x) % 256 ∷ []) []
+circle_from_any_state x y = refl
+
 pub circle_twice : serial circle (go ∷ go ∷ []) ≡ run (7 ∷ 6 ∷ []) ([] ∷ [] ∷ [])
 circle_twice = refl
 

@@ -9,17 +9,17 @@ use Rattle.frp_tree.specs.Meaning.{State, map_two, map_three, Rule, Always, Now,
 
 module _ (p : ProgramTree) (s : State) (event x : List ℕ) (k : ℕ) (d : DeclTree) (found : decl_named p.decls x ≡ Some d) where
   -- The value of a definition by its rule, one deeper than those of the definitions that it names.
-  pub value-always : (e : Tree) → rule_on event d.behaviour ≡ Always e → value_on p s event x (suc k) ≡ expression_on p s event e None k
-  value-always e rule = rw (found, rule) refl
+  pub value_on-always : (e : Tree) → rule_on event d.behaviour ≡ Always e → value_on p s event x (suc k) ≡ expression_on p s event e None k
+  value_on-always e rule = rw (found, rule) refl
 
-  pub value-now : (e : Tree) → rule_on event d.behaviour ≡ Now e → value_on p s event x (suc k) ≡ expression_on p s event e (Some x) k
-  value-now e rule = rw (found, rule) refl
+  pub value_on-now : (e : Tree) → rule_on event d.behaviour ≡ Now e → value_on p s event x (suc k) ≡ expression_on p s event e (Some x) k
+  value_on-now e rule = rw (found, rule) refl
 
-  pub value-later : (e : Tree) → rule_on event d.behaviour ≡ Later e → value_on p s event x (suc k) ≡ old_state p s x
-  value-later e rule = rw (found, rule) refl
+  pub value_on-later : (e : Tree) → rule_on event d.behaviour ≡ Later e → value_on p s event x (suc k) ≡ old_state p s x
+  value_on-later e rule = rw (found, rule) refl
 
-  pub value-stays : rule_on event d.behaviour ≡ Stays → value_on p s event x (suc k) ≡ old_state p s x
-  value-stays rule = rw (found, rule) refl
+  pub value_on-stays : rule_on event d.behaviour ≡ Stays → value_on p s event x (suc k) ≡ old_state p s x
+  value_on-stays rule = rw (found, rule) refl
 
 -- One more event: its reaction goes on from the state after those before it.
 pub serial-append : (p : ProgramTree) (events : List (List ℕ)) (event : List ℕ) → serial p (events ++ event ∷ []) ≡ and_then_on p (serial p events) event
@@ -75,7 +75,7 @@ module _ (p : ProgramTree) (s : State) (values values' : List ℕ → Option ℕ
 
 -- A value that is found at some depth is found at every greater one, and is the same there.
 module _ (p : ProgramTree) (s : State) (event : List ℕ) where
-  pub value-deeper : (k : ℕ) (x : List ℕ) (n : ℕ) → value_on p s event x k ≡ Some n → value_on p s event x (suc k) ≡ Some n
-  value-deeper zero x n found = cc
-  value-deeper (suc k) x n found =
-      value_of-kept p s (λ y. value_on p s event y k) (λ y. value_on p s event y (suc k)) (value-deeper k) event x (decl_named p.decls x) n found
+  pub value_on-deeper : (k : ℕ) (x : List ℕ) (n : ℕ) → value_on p s event x k ≡ Some n → value_on p s event x (suc k) ≡ Some n
+  value_on-deeper zero x n found = cc
+  value_on-deeper (suc k) x n found =
+      value_of-kept p s (λ y. value_on p s event y k) (λ y. value_on p s event y (suc k)) (value_on-deeper k) event x (decl_named p.decls x) n found

@@ -39,6 +39,7 @@ pub data Rule : Type 0 where
   Later : Tree → Rule
   Stays : Rule
 
+-- By the clause for the event, where there is one.
 abbrev pub clause_rule : Option ClauseTree → Rule
 clause_rule None = Stays
 clause_rule (Some c) = if c.later then Later c.expr else Now c.expr
@@ -96,6 +97,7 @@ new_state_by p s event x (Now e) = value_on p s event x (depth p) ∷ []
 new_state_by p s event x (Later e) = expression_on p s event e (Some x) (depth p) ∷ []
 new_state_by p s event x Stays = old_state p s x ∷ []
 
+-- The new state of the program, where each of its values is defined.
 abbrev pub new_state : ProgramTree → State → List ℕ → Option State
 new_state p s event = all_defined (flat_map (λ d. new_state_by p s event d.name (rule_on event d.behaviour)) p.decls)
 
@@ -127,6 +129,7 @@ pub record SerialRun : Type 0 where
 abbrev pub add_reaction : SerialRun → Reaction → SerialRun
 add_reaction run r = record { state = r.state; ports = run.ports ++ r.ports ∷ [] }
 
+-- A run, and then the reaction to one more event.
 abbrev pub and_then_on : ProgramTree → Option SerialRun → List ℕ → Option SerialRun
 and_then_on p run event = option_and_then (λ r. option_map (add_reaction r) (react p r.state event)) run
 
