@@ -1,6 +1,5 @@
 -- One counter of any names, on its event.
-use Rattle.std.specs.Prelude.{◌≡◌, ◌≤◌, ℕ, ◌+◌, ◌%◌, nat_le, true, List, [], ◌∷◌, Option, Some, refl}
-use Rattle.std.specs.Str.{bytes_eq}
+use Rattle.std.specs.Prelude.{◌≡◌, ◌≤◌, ℕ, ◌+◌, ◌%◌, List, [], ◌∷◌, Some, refl}
 use Rattle.std.proofs.lemmas.Slice.Eq.{bytes_eq-Decides}
 use Rattle.std.proofs.lemmas.Bool.{le-leb}
 use Rattle.frp_tree.specs.declared.syntax.Ty.TheVariants.{U8}
@@ -10,7 +9,7 @@ use Rattle.frp_tree.specs.declared.syntax.Event.{Event}
 use Rattle.frp_tree.specs.declared.syntax.Setup.{Setup}
 use Rattle.frp_tree.specs.Tree.{Name, Binary, ProgramTree}
 use Rattle.frp_tree.specs.Meaning.{react, initial_state}
-use Rattle.frp_tree.proofs.Programs.{event, clause, output, reactive, small}
+use Rattle.frp_tree.proofs.Programs.{clause, output, reactive, small}
 
 module _ (tick name port : List ℕ) (events : List Event) (setups : List Setup) (init step : ℕ) where
   abbrev pub one_counter : ProgramTree

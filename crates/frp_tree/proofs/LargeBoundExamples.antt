@@ -1,10 +1,9 @@
 -- The bounds of programs at the limits of the chip, as numbers.
-use Rattle.std.specs.Prelude.{◌≡◌, ◌≤◌, ℕ, zero, suc, ◌+◌, List, [], ◌∷◌, ◌++◌, length, codes, refl, decimal, map}
+use Rattle.std.specs.Prelude.{◌≡◌, ℕ, zero, suc, List, [], ◌∷◌, ◌++◌, codes, refl, decimal, map}
 use Rattle.frp_tree.specs.declared.syntax.Ty.TheVariants.{U8, U16}
 use Rattle.frp_tree.specs.declared.syntax.Lit.TheVariants as lit
-use Rattle.frp_tree.specs.declared.syntax.BinOp.TheVariants.{Div}
 use Rattle.frp_tree.specs.declared.syntax.Event.{Event}
-use Rattle.frp_tree.specs.Tree.{Tree, Name, Binary, ClauseTree, DeclTree, ProgramTree}
+use Rattle.frp_tree.specs.Tree.{Tree, Name, ClauseTree, DeclTree, ProgramTree}
 use Rattle.frp_tree.specs.Bounds.{levels, words_bound, ram_bound, settle_bound}
 use Rattle.frp_tree.proofs.Programs.{event, clause, reactive, one_more, wide, small, on_go, go, divided_by}
 

@@ -9,3 +9,4 @@ pub mod MeaningLaws
 pub mod OperatorExamples
 pub mod Programs
 pub mod TokenLaws
+pub mod TypedValues

@@ -1,11 +1,9 @@
 -- Reactions and serial runs of small programs.
-use Rattle.std.specs.Prelude.{◌≡◌, ℕ, zero, suc, ◌+◌, ◌*◌, ◌/◌, ◌%◌, List, [], ◌∷◌, Option, Some, None, codes, refl, true, false, if◌then◌else◌, ◌==◌}
-use Rattle.frp_tree.specs.declared.syntax.Ty.TheVariants.{U8, Bool}
+use Rattle.std.specs.Prelude.{◌≡◌, ℕ, zero, suc, ◌+◌, ◌/◌, ◌%◌, List, [], ◌∷◌, Option, Some, None, codes, refl, true, if◌then◌else◌, ◌==◌}
 use Rattle.frp_tree.specs.declared.syntax.Lit.TheVariants as lit
-use Rattle.frp_tree.specs.declared.syntax.BinOp.TheVariants.{Add}
-use Rattle.frp_tree.specs.Tree.{Tree, Const, Name, Binary, If, ProgramTree}
+use Rattle.frp_tree.specs.Tree.{Const, Name, If, ProgramTree}
 use Rattle.frp_tree.specs.Meaning.{State, value_on, expression_on, react, Reaction, initial_state, serial, SerialRun, state_after, ports_after}
-use Rattle.frp_tree.proofs.Programs.{counter, delayed, circle, cycle, doubling, wrapping, quotients, squares, division, motor, tick, go, low, high, on_go, reactive, plain, small, clause}
+use Rattle.frp_tree.proofs.Programs.{counter, delayed, circle, cycle, doubling, wrapping, quotients, squares, division, motor, tick, go, low, high, small}
 
 -- What is wanted: a reaction, and a run.
 abbrev reaction : List ℕ → List ℕ → Option Reaction

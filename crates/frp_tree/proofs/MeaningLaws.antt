@@ -5,7 +5,7 @@ use Rattle.std.proofs.lemmas.List.Sums.{fold-append}
 use Rattle.frp_tree.specs.Tree.{Tree, Const, Name, Unary, Binary, Shift, If, Convert, DeclTree, ProgramTree}
 use Rattle.frp_tree.specs.Types.{decl_named}
 use Rattle.frp_tree.specs.Values.{unary_value, binary_value, shift_value, if_value, convert_value}
-use Rattle.frp_tree.specs.Meaning.{State, map_two, map_three, Rule, Always, Now, Later, Stays, rule_on, old_state, modulus_of, evaluate, stands_for, value_by, value_on, expression_on, initial_state, SerialRun, and_then_on, serial}
+use Rattle.frp_tree.specs.Meaning.{State, map_two, map_three, Rule, Always, Now, Later, Stays, rule_on, old_state, modulus_of, evaluate, stands_for, value_by, value_on, expression_on, initial_state, and_then_on, serial}
 
 module _ (p : ProgramTree) (s : State) (event x : List ℕ) (k : ℕ) (d : DeclTree) (found : decl_named p.decls x ≡ Some d) where
   -- The value of a definition by its rule, one deeper than those of the definitions that it names.

@@ -1,5 +1,5 @@
 -- Each operator at its edges.
-use Rattle.std.specs.Prelude.{◌≡◌, ℕ, codes, refl, None, Some, true, false}
+use Rattle.std.specs.Prelude.{◌≡◌, ℕ, refl, None, Some, true, false}
 use Rattle.frp_tree.specs.declared.syntax.Ty.{Ty}
 use Rattle.frp_tree.specs.declared.syntax.Ty.TheVariants.{U8, U16}
 use Rattle.frp_tree.specs.declared.syntax.Ty.TheVariants as ty

@@ -1,5 +1,5 @@
 -- Programs of which examples speak, and short words to write them with.
-use Rattle.std.specs.Prelude.{ℕ, suc, zero, ◌+◌, List, [], ◌∷◌, ◌++◌, codes, true, false}
+use Rattle.std.specs.Prelude.{ℕ, List, [], ◌∷◌, codes, true, false}
 use Rattle.frp_tree.specs.declared.syntax.Ty.{Ty}
 use Rattle.frp_tree.specs.declared.syntax.Ty.TheVariants.{U8, U16, Bool}
 use Rattle.frp_tree.specs.declared.syntax.Lit.{Lit}
@@ -167,7 +167,7 @@ goal_clauses =
 abbrev pub speed_clauses : List ClauseTree
 speed_clauses =
     clause (codes "Slow") (
-        If (Binary Lt name_speed name_goal) (one_more (codes "speed")) (If (Binary Gt name_speed name_goal) (Binary Sub name_speed (small 1)) name_speed)) ∷ []
+    If (Binary Lt name_speed name_goal) (one_more (codes "speed")) (If (Binary Gt name_speed name_goal) (Binary Sub name_speed (small 1)) name_speed)) ∷ []
 
 abbrev pub motor : ProgramTree
 motor = record {
