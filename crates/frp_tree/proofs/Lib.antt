@@ -1,5 +1,12 @@
 pub mod BoundExamples
 pub mod DigitFacts
+pub mod FirstForm
+pub mod LargeBoundExamples
 pub mod Lexemes
 pub mod Longest
+pub mod MeaningExamples
+pub mod MeaningLaws
+pub mod OperatorExamples
+pub mod Programs
 pub mod TokenLaws
+pub mod TypedValues
