@@ -1,5 +1,4 @@
-use Rattle.std.specs.Prelude.{ℕ, ◌+◌, ◌-◌, ◌%◌, Bool, not, nat_le, nat_lt, ◌&&◌, ◌||◌, Option, Some, None}
-use Rattle.std.specs.Bool.{xor}
+use Rattle.std.specs.Prelude.{ℕ, ◌+◌, ◌-◌, ◌%◌, Bool, not, nat_le, nat_lt, ◌&&◌, ◌||◌, if◌then◌else◌, Option, Some, None}
 use Rattle.pic_isa.specs.declared.instructions.Dest.{Dest}
 use Rattle.pic_isa.specs.declared.instructions.Dest.TheVariants.{W, F}
 use Rattle.pic_regs.specs.Bytes.{Byte, num, bits, is_zero, bit_by_bit}
@@ -54,7 +53,7 @@ abbrev pub either : Byte → Byte → Byte
 either = bit_by_bit (λ p q. p || q)
 
 abbrev pub differing : Byte → Byte → Byte
-differing = bit_by_bit xor
+differing = bit_by_bit (λ p q. if p then not q else q)
 
 abbrev pub complement : Byte → Byte
 complement x = record { b7 = not x.b7; b6 = not x.b6; b5 = not x.b5; b4 = not x.b4; b3 = not x.b3; b2 = not x.b2; b1 = not x.b1; b0 = not x.b0 }
