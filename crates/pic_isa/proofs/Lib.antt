@@ -1,2 +1,3 @@
 pub mod NameFacts
+pub mod WordExamples
 pub mod WordFacts

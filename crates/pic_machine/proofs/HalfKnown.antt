@@ -1,0 +1,48 @@
+-- Steps of a chip of which only the program counter, the bank and GIE are known compute: nothing else is asked of it.
+use Rattle.std.specs.Prelude.{ℕ}
+use Rattle.std.proofs.Common.{◌≡◌, refl, true, false, Some, None}
+use Rattle.pic_regs.specs.Bytes.{Byte, swapped, updated}
+use Rattle.pic_regs.specs.Arrivals.{Sources, no_source}
+use Rattle.pic_machine.specs.Chip.{Chip}
+use Rattle.pic_machine.specs.Boundary.{Step, boundary, met}
+
+-- The chip at an address, in bank 0 or 1, with GIE clear.
+abbrev in_bank_0 : ℕ → Chip → Chip
+in_bank_0 address c =
+    record c { pc = address; regs = record c.regs { status = record c.regs.status { b6 = false; b5 = false }; intcon = record c.regs.intcon { b7 = false } } }
+
+abbrev in_bank_1 : ℕ → Chip → Chip
+in_bank_1 address c =
+    record c { pc = address; regs = record c.regs { status = record c.regs.status { b6 = false; b5 = true }; intcon = record c.regs.intcon { b7 = false } } }
+
+abbrev next : ℕ → Chip → Chip
+next word c = (boundary (λ address. word) no_source c).after
+
+-- BSF STATUS,5 and BCF STATUS,5.
+bank_1_chosen : (c : Chip) → next 0x1683 (in_bank_0 20 c) ≡ in_bank_1 21 c
+bank_1_chosen c = refl
+
+bank_0_chosen : (c : Chip) → next 0x1283 (in_bank_1 20 c) ≡ in_bank_0 21 c
+bank_0_chosen c = refl
+
+-- MOVWF 20h in bank 1.
+banked_movwf : (c : Chip) → next 0x00A0 (in_bank_1 20 c) ≡ (let d = in_bank_1 21 c in record d { regs = record d.regs { plain = updated c.regs.plain 0x0A0 c.w } })
+banked_movwf c = refl
+
+banked_movwf_wrote : (c : Chip) → (boundary (λ address. 0x00A0) no_source (in_bank_1 20 c)).wrote ≡ Some 0x0A0
+banked_movwf_wrote c = refl
+
+-- SWAPF STATUS,W; MOVWF 7Dh; SWAPF 7Dh,W; MOVWF STATUS.
+status_saved_and_brought_back : (c : Chip) → (next 0x0083 (next 0x0E7D (next 0x00FD (next 0x0E03 (in_bank_0 20 c))))).regs.status ≡ (in_bank_0 20 c).regs.status
+status_saved_and_brought_back c = refl
+
+-- The same with anything arriving at each boundary.
+abbrev next_with : Sources → ℕ → Chip → Chip
+next_with arrivals word c = (boundary (λ address. word) arrivals c).after
+
+bank_0_chosen_under_arrivals : (c : Chip) (arrivals : Sources) → next_with arrivals 0x1283 (in_bank_1 20 c) ≡ met arrivals (in_bank_0 21 c)
+bank_0_chosen_under_arrivals c arrivals = refl
+
+status_under_arrivals : (c : Chip) (a0 a1 a2 a3 : Sources) →
+    (next_with a3 0x0083 (next_with a2 0x0E7D (next_with a1 0x00FD (next_with a0 0x0E03 (in_bank_0 20 c))))).regs.status ≡ (in_bank_0 20 c).regs.status
+status_under_arrivals c a0 a1 a2 a3 = refl

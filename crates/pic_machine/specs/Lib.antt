@@ -1,0 +1,5 @@
+pub mod Boundary
+pub mod Chip
+pub mod Exec
+pub mod Results
+pub mod Run

@@ -1,0 +1,10 @@
+//! The PIC16F877 (data sheet DS30292) as a machine of steps: instructions, interrupts, the return stack, and
+//! what a step reports.
+//!
+//! So far these are definitions, in `specs/`, with computed examples beside them in `proofs/`; the code has
+//! only the types of a step's report. The simulator and the promises of the firmware stand on this crate.
+#![tactic(auto)]
+
+mod steps;
+
+pub use steps::{Did, PortWrite, Stepped, Why};

@@ -1,0 +1,3 @@
+pub mod ByteFacts
+pub mod MapExamples
+pub mod RegisterExamples

@@ -1,0 +1,10 @@
+//! The registers of the PIC16F877 (data sheet DS30292): what each data address means, what a read gives and
+//! a write leaves, interrupt flags and requests, and the state at power-on.
+//!
+//! So far these are definitions, in `specs/`, with computed examples beside them in `proofs/`; the code has
+//! only what the chip starts from. The chip's model stands on this crate.
+#![tactic(auto)]
+
+mod starts;
+
+pub use starts::Start;
