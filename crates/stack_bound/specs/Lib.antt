@@ -1,0 +1,7 @@
+pub mod Counts
+pub mod Follows
+pub mod MapNames
+pub mod Once
+pub mod Ready
+pub mod Settled
+pub mod Urgent
