@@ -1,8 +1,9 @@
 -- The bounds of programs at the limits of the chip, as numbers.
-use Rattle.std.specs.Prelude.{◌≡◌, ℕ, zero, suc, List, [], ◌∷◌, ◌++◌, codes, refl, decimal, map}
+use Rattle.std.specs.Prelude.{◌≡◌, ℕ, zero, suc, List, [], ◌∷◌, ◌++◌, codes, refl, map}
 use Rattle.frp_tree.specs.declared.syntax.Ty.TheVariants.{U8, U16}
 use Rattle.frp_tree.specs.declared.syntax.Lit.TheVariants as lit
 use Rattle.frp_tree.specs.declared.syntax.Event.{Event}
+use Rattle.frp_tree.specs.Digits.{hex2}
 use Rattle.frp_tree.specs.Tree.{Tree, Name, ClauseTree, DeclTree, ProgramTree}
 use Rattle.frp_tree.specs.Bounds.{levels, words_bound, ram_bound, settle_bound}
 use Rattle.frp_tree.proofs.Programs.{event, clause, reactive, one_more, wide, small, on_go, go, divided_by}
@@ -50,10 +51,10 @@ many_divisions_ram = refl
 pub many_divisions_words : words_bound many_divisions ≡ 359248
 many_divisions_words = refl
 
--- So many states of two bytes, `v1` and so on, that each become 1.
+-- So many states of two bytes, `v01` to `v56` where there are 86, that each become 1.
 abbrev wide_states : ℕ → List DeclTree
 wide_states zero = []
-wide_states (suc n) = reactive (codes "v" ++ decimal (suc n)) U16 (lit.Wide 0) (clause go (wide 1) ∷ []) ∷ wide_states n
+wide_states (suc n) = reactive (codes "v" ++ hex2 (suc n)) U16 (lit.Wide 0) (clause go (wide 1) ∷ []) ∷ wide_states n
 
 -- All of the RAM: 86 states of two bytes and one of one byte, one level, and as much scratch as states.
 abbrev full_ram : ProgramTree
