@@ -1,3 +1,4 @@
 pub mod NameFacts
+pub mod RowFacts
 pub mod WordExamples
 pub mod WordFacts

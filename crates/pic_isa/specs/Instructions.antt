@@ -1,4 +1,4 @@
-use Rattle.std.specs.Prelude.{◌≡◌, ℕ, ◌<◌, ◌+◌, ◌-◌, ◌*◌, ◌/◌, ◌%◌, bit_and, ◌==◌, ◌||◌, if◌then◌else◌, Option, Some, None}
+use Rattle.std.specs.Prelude.{◌≡◌, ℕ, ◌<◌, ◌+◌, ◌-◌, ◌*◌, ◌/◌, ◌%◌, bit_and, ◌==◌, ◌&&◌, if◌then◌else◌, Option, Some, None}
 use Rattle.pic_isa.specs.declared.instructions.Dest.{Dest}
 use Rattle.pic_isa.specs.declared.instructions.Dest.TheVariants.{W, F}
 use Rattle.pic_isa.specs.declared.instructions.Instr.{Instr}
@@ -115,8 +115,8 @@ row_of high low =
     let k = high % 8 * 256 + low in
     if high == 0x07 then Some (Addwf f d)  -- 00 0111 dfff ffff
     else if high == 0x05 then Some (Andwf f d)  -- 00 0101 dfff ffff
-    else if (high * 2 + low / 128) == 0x03 then Some (Clrf f)  -- 00 0001 1fff ffff
-    else if (high * 2 + low / 128) == 0x02 then Some Clrw  -- 00 0001 0xxx xxxx
+    else if high == 0x01 && low / 128 == 1 then Some (Clrf f)  -- 00 0001 1fff ffff
+    else if high == 0x01 && low / 128 == 0 then Some Clrw  -- 00 0001 0xxx xxxx
     else if high == 0x09 then Some (Comf f d)  -- 00 1001 dfff ffff
     else if high == 0x03 then Some (Decf f d)  -- 00 0011 dfff ffff
     else if high == 0x0B then Some (Decfsz f d)  -- 00 1011 dfff ffff
@@ -124,8 +124,8 @@ row_of high low =
     else if high == 0x0F then Some (Incfsz f d)  -- 00 1111 dfff ffff
     else if high == 0x04 then Some (Iorwf f d)  -- 00 0100 dfff ffff
     else if high == 0x08 then Some (Movf f d)  -- 00 1000 dfff ffff
-    else if (high * 2 + low / 128) == 0x01 then Some (Movwf f)  -- 00 0000 1fff ffff
-    else if (high * 8 + low / 128 * 4 + low % 32) == 0x00 then Some Nop  -- 00 0000 0xx0 0000
+    else if high == 0x00 && low / 128 == 1 then Some (Movwf f)  -- 00 0000 1fff ffff
+    else if high == 0x00 && low / 128 == 0 && low % 32 == 0 then Some Nop  -- 00 0000 0xx0 0000
     else if high == 0x0D then Some (Rlf f d)  -- 00 1101 dfff ffff
     else if high == 0x0C then Some (Rrf f d)  -- 00 1100 dfff ffff
     else if high == 0x02 then Some (Subwf f d)  -- 00 0010 dfff ffff
@@ -138,14 +138,14 @@ row_of high low =
     else if high / 2 == 0x1F then Some (Addlw low)  -- 11 111x kkkk kkkk
     else if high == 0x39 then Some (Andlw low)  -- 11 1001 kkkk kkkk
     else if high / 8 == 0x4 then Some (Call k)  -- 10 0kkk kkkk kkkk
-    else if (high * 256 + low) == 0x0064 then Some Clrwdt  -- 00 0000 0110 0100
+    else if high == 0x00 && low == 0x64 then Some Clrwdt  -- 00 0000 0110 0100
     else if high / 8 == 0x5 then Some (Goto k)  -- 10 1kkk kkkk kkkk
     else if high == 0x38 then Some (Iorlw low)  -- 11 1000 kkkk kkkk
     else if high / 4 == 0xC then Some (Movlw low)  -- 11 00xx kkkk kkkk
-    else if (high * 256 + low) == 0x0009 then Some Retfie  -- 00 0000 0000 1001
+    else if high == 0x00 && low == 0x09 then Some Retfie  -- 00 0000 0000 1001
     else if high / 4 == 0xD then Some (Retlw low)  -- 11 01xx kkkk kkkk
-    else if (high * 256 + low) == 0x0008 then Some Return  -- 00 0000 0000 1000
-    else if (high * 256 + low) == 0x0063 then Some Sleep  -- 00 0000 0110 0011
+    else if high == 0x00 && low == 0x08 then Some Return  -- 00 0000 0000 1000
+    else if high == 0x00 && low == 0x63 then Some Sleep  -- 00 0000 0110 0011
     else if high / 2 == 0x1E then Some (Sublw low)  -- 11 110x kkkk kkkk
     else if high == 0x3A then Some (Xorlw low)  -- 11 1010 kkkk kkkk
     else None

@@ -46,3 +46,31 @@ bank_0_chosen_under_arrivals c arrivals = refl
 status_under_arrivals : (c : Chip) (a0 a1 a2 a3 : Sources) →
     (next_with a3 0x0083 (next_with a2 0x0E7D (next_with a1 0x00FD (next_with a0 0x0E03 (in_bank_0 20 c))))).regs.status ≡ (in_bank_0 20 c).regs.status
 status_under_arrivals c a0 a1 a2 a3 = refl
+
+-- A context saved in common RAM and brought back, in any bank: MOVWF 70h; SWAPF STATUS,W; MOVWF 71h; MOVF PCLATH,W;
+-- MOVWF 72h; CLRF PCLATH; and then MOVF 72h,W; MOVWF PCLATH; SWAPF 71h,W; MOVWF STATUS; SWAPF 70h,F; SWAPF 70h,W.
+abbrev masked : ℕ → Chip → Chip
+masked address c = record c { pc = address; regs = record c.regs { intcon = record c.regs.intcon { b7 = false } } }
+
+abbrev saved : Sources → Chip → Chip
+saved arrivals c =
+    next_with arrivals 0x018A (next_with arrivals 0x00F2 (next_with arrivals 0x080A (next_with arrivals 0x00F1 (next_with arrivals 0x0E03 (next_with arrivals 0x00F0 (masked 4 c))))))
+
+abbrev brought_back : Sources → Chip → Chip
+brought_back arrivals c =
+    next_with arrivals 0x0E70 (next_with arrivals 0x0EF0 (next_with arrivals 0x0083 (next_with arrivals 0x0E71 (next_with arrivals 0x008A (next_with arrivals 0x0872 c)))))
+
+pclath_cleared : (c : Chip) (arrivals : Sources) → (saved arrivals c).regs.pclath.b3 ≡ false
+pclath_cleared c arrivals = refl
+
+context_w : (c : Chip) (arrivals : Sources) → (brought_back arrivals (saved arrivals c)).w ≡ c.w
+context_w c arrivals = refl
+
+context_status : (c : Chip) (arrivals : Sources) → (brought_back arrivals (saved arrivals c)).regs.status ≡ c.regs.status
+context_status c arrivals = refl
+
+context_pclath : (c : Chip) (arrivals : Sources) → (brought_back arrivals (saved arrivals c)).regs.pclath ≡ c.regs.pclath
+context_pclath c arrivals = refl
+
+context_leads_on : (c : Chip) (arrivals : Sources) → (brought_back arrivals (saved arrivals c)).pc ≡ 16
+context_leads_on c arrivals = refl

@@ -1,6 +1,6 @@
 use Rattle.std.specs.Prelude.{ℕ, ◌+◌, ◌-◌, ◌*◌, ◌%◌, min, Bool, if◌then◌else◌, true}
 use Rattle.pic_regs.specs.Bytes.{Byte, num, bits, zeros, one_if, updated}
-use Rattle.pic_regs.specs.Map.{Reg, Indf, Pcl, Pclath, reg_at}
+use Rattle.pic_regs.specs.Map.{Reg, Indf, Pcl, Pclath, reg_at, reg_in}
 use Rattle.pic_regs.specs.Registers.{Registers, read}
 
 -- The chip: W, the program counter, the registers, and the return stack with the place that the next push fills and
@@ -38,17 +38,22 @@ with_gie gie c = record c { regs = record c.regs { intcon = record c.regs.intcon
 abbrev pub jumped : ℕ → Chip → Chip
 jumped k c = record c { pc = 4096 * one_if c.regs.pclath.b4 + 2048 * one_if c.regs.pclath.b3 + k }
 
--- The register that INDF stands for, at IRP and FSR. It is INDF itself at INDF's own addresses.
+-- The register at IRP and FSR. At INDF's own addresses it is INDF.
 abbrev pub indirect : Registers → Reg
 indirect r = reg_at (256 * one_if r.status.b7 + num r.fsr)
 
+-- INDF stands for the register at IRP and FSR, each other register for itself.
 abbrev pub through : Registers → Reg → Reg
 through r Indf = indirect r
 through r reg = reg
 
--- The register that seven bits of an instruction name, below RP1 and RP0.
+-- The bank that RP1 and RP0 choose.
+abbrev pub bank : Registers → ℕ
+bank r = 2 * one_if r.status.b6 + one_if r.status.b5
+
+-- The register that seven bits of an instruction name in that bank.
 abbrev pub named : ℕ → Registers → Reg
-named f r = through r (reg_at (256 * one_if r.status.b6 + 128 * one_if r.status.b5 + f))
+named f r = through r (reg_in (bank r) f)
 
 -- What an instruction reads in a register, when the program counter is already at the next address, whose low eight
 -- bits are PCL.

@@ -15,13 +15,13 @@ bit_moved : num (with_bit 7 (bit 1 (bits 0xFD)) (bits 0xFF)) ≡ 0x7F
 bit_moved = refl
 
 -- A bit of a number, as 1 or 0.
-one_if-odd : (n : ℕ) → one_if ((n % 2) == 1) ≡ n % 2
+pub one_if-odd : (n : ℕ) → one_if ((n % 2) == 1) ≡ n % 2
 one_if-odd n = grind arith
 
 pub num-bits : (n : ℕ) → num (bits n) ≡ n % 256
 num-bits n = omega (arith, one_if-odd (n / 128), one_if-odd (n / 64), one_if-odd (n / 32), one_if-odd (n / 16), one_if-odd (n / 8), one_if-odd (n / 4), one_if-odd (n / 2), one_if-odd n)
 
-one_if-small : (b : Bool) → one_if b ≤ 1
+pub one_if-small : (b : Bool) → one_if b ≤ 1
 one_if-small true = lit≤ tt
 one_if-small false = lit≤ tt
 
@@ -33,7 +33,7 @@ one_if-is_one true = refl
 one_if-is_one false = refl
 
 -- A bit of the number that a byte is.
-bit-num : (b : Bool) (n : ℕ) → n % 2 ≡ one_if b → ((n % 2) == 1) ≡ b
+pub bit-num : (b : Bool) (n : ℕ) → n % 2 ≡ one_if b → ((n % 2) == 1) ≡ b
 bit-num b n e = ap (λ m. m == 1) e ∙ one_if-is_one b
 
 pub bits-num : (x : Byte) → bits (num x) ≡ x

@@ -1,3 +1,4 @@
+pub mod ArrivalFacts
 pub mod ByteFacts
 pub mod MapExamples
 pub mod RegisterExamples

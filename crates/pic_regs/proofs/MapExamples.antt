@@ -1,7 +1,7 @@
 -- The register map, by the data sheet's table of data memory.
-use Rattle.std.proofs.Common.{◌≡◌, ℕ, zero, suc, ◌+◌, Bool, true, false, ◌&&◌, ◌||◌, not, nat_le, ◌==◌, List, [], ◌∷◌, map, Option, Some, None, refl, if◌then◌else◌}
+use Rattle.std.proofs.Common.{◌≡◌, ℕ, zero, suc, ◌+◌, ◌*◌, ◌/◌, ◌%◌, ◌<◌, Bool, true, false, ◌&&◌, ◌||◌, not, nat_le, ◌==◌, List, [], ◌∷◌, map, Option, Some, None, refl, if◌then◌else◌, ap, ◌∙◌, arith}
 use Rattle.pic_regs.specs.Bytes.{one_if}
-use Rattle.pic_regs.specs.Map.{Reg, Absent, Indf, Pcl, Status, Fsr, Pclath, Intcon, Pir1, Pir2, Pie1, Pie2, Port, Tris, Plain, reg_at, lowest, canonical}
+use Rattle.pic_regs.specs.Map.{Reg, Absent, Indf, Pcl, Status, Fsr, Pclath, Intcon, Pir1, Pir2, Pie1, Pie2, Port, Tris, Plain, reg_at, reg_in, lowest, canonical}
 use Rattle.pic_regs.specs.Start.{ram_place}
 
 abbrev is_none : Option ℕ → Bool
@@ -94,3 +94,10 @@ places_of_ram :
     map ram_place (0x01F ∷ 0x020 ∷ 0x07F ∷ 0x0A0 ∷ 0x0EF ∷ 0x0F0 ∷ 0x110 ∷ 0x16F ∷ 0x190 ∷ 0x1EF ∷ [])
     ≡ None ∷ Some 0 ∷ Some 95 ∷ Some 96 ∷ Some 175 ∷ None ∷ Some 176 ∷ Some 271 ∷ Some 272 ∷ Some 367 ∷ []
 places_of_ram = refl
+
+-- An address is a bank and seven bits.
+pub reg_at-bank : (bank f : ℕ) → f < 128 → reg_at (128 * bank + f) ≡ reg_in bank f
+reg_at-bank bank f below =
+    let address : ℕ = 128 * bank + f in
+    ap (λ b. reg_in b (address % 128)) (let b : address / 128 ≡ bank = omega (arith, below) in b)
+    ∙ ap (reg_in bank) (let r : address % 128 ≡ f = omega (arith, below) in r)

@@ -19,6 +19,7 @@ pub data Reg : Type 0 where
   Tris : ℕ → Reg
   Plain : ℕ → Reg
 
+-- A number between two bounds, both included.
 abbrev pub within : ℕ → ℕ → ℕ → Bool
 within low high n = nat_le low n && nat_le n high
 
@@ -62,9 +63,10 @@ in_bank (suc zero) f = in_bank_1 f
 in_bank (suc (suc zero)) f = in_bank_2 f
 in_bank _ f = in_bank_3 f
 
--- The registers of a bank. Those in the first lines are in each bank, and so is RAM from 70h on.
-abbrev pub in_banks : ℕ → ℕ → Reg
-in_banks bank f =
+-- What the seven bits of an address mean in a bank. The registers in the first lines are in each bank, and so is RAM
+-- from 70h on.
+abbrev pub reg_in : ℕ → ℕ → Reg
+reg_in bank f =
     if f == 0x00 then Indf
     else if f == 0x02 then Pcl
     else if f == 0x03 then Status
@@ -76,7 +78,7 @@ in_banks bank f =
 
 -- What a data address means. It has nine bits, the upper two of which are the bank.
 abbrev pub reg_at : ℕ → Reg
-reg_at address = in_banks (address / 128) (address % 128)
+reg_at address = reg_in (address / 128) (address % 128)
 
 -- The lowest address of a register, and None where there is no register.
 abbrev pub lowest : Reg → Option ℕ
@@ -99,19 +101,19 @@ lowest (Plain address) = Some address
 abbrev pub canonical : ℕ → Option ℕ
 canonical address = lowest (reg_at address)
 
--- The bits of a port that exist, the others as 0: PORTA lacks 7 and 6, PORTE 7 to 3.
+-- A port's byte with 0 at each bit that does not exist: PORTA lacks 7 and 6, PORTE 7 to 3.
 abbrev pub port_bits : ℕ → Byte → Byte
 port_bits zero x = record x { b7 = false; b6 = false }
 port_bits (suc (suc (suc (suc zero)))) x = record x { b7 = false; b6 = false; b5 = false; b4 = false; b3 = false }
 port_bits _ x = x
 
--- Those of its TRIS: TRISA lacks 7 and 6, TRISE 3.
+-- The same for its TRIS: TRISA lacks 7 and 6, TRISE 3.
 abbrev pub tris_bits : ℕ → Byte → Byte
 tris_bits zero x = record x { b7 = false; b6 = false }
 tris_bits (suc (suc (suc (suc zero)))) x = record x { b3 = false }
 tris_bits _ x = x
 
--- Those of a register. PCLATH has five bits, PIR1 lacks 5 and 4, and PIR2 has 4, 3 and 0.
+-- The same for any register: PCLATH has bits 4 to 0, PIR1 lacks 5 and 4, and PIR2 has 4, 3 and 0.
 abbrev pub existing : Reg → Byte → Byte
 existing Pclath x = record x { b7 = false; b6 = false; b5 = false }
 existing Pir1 x = record x { b5 = false; b4 = false }
@@ -119,3 +121,24 @@ existing Pir2 x = record x { b7 = false; b6 = false; b5 = false; b2 = false; b1 
 existing (Port n) x = port_bits n x
 existing (Tris n) x = tris_bits n x
 existing _ x = x
+
+-- A byte over an old one of a port, of a TRIS, of any register: each bit that does not exist stays as it was, and so do
+-- TO and PD of STATUS, bits 4 and 3.
+abbrev pub over_port : ℕ → Byte → Byte → Byte
+over_port zero old x = record x { b7 = old.b7; b6 = old.b6 }
+over_port (suc (suc (suc (suc zero)))) old x = record x { b7 = old.b7; b6 = old.b6; b5 = old.b5; b4 = old.b4; b3 = old.b3 }
+over_port _ old x = x
+
+abbrev pub over_tris : ℕ → Byte → Byte → Byte
+over_tris zero old x = record x { b7 = old.b7; b6 = old.b6 }
+over_tris (suc (suc (suc (suc zero)))) old x = record x { b3 = old.b3 }
+over_tris _ old x = x
+
+abbrev pub over : Reg → Byte → Byte → Byte
+over Status old x = record x { b4 = old.b4; b3 = old.b3 }
+over Pclath old x = record x { b7 = old.b7; b6 = old.b6; b5 = old.b5 }
+over Pir1 old x = record x { b5 = old.b5; b4 = old.b4 }
+over Pir2 old x = record x { b7 = old.b7; b6 = old.b6; b5 = old.b5; b2 = old.b2; b1 = old.b1 }
+over (Port n) old x = over_port n old x
+over (Tris n) old x = over_tris n old x
+over _ old x = x

@@ -2,7 +2,7 @@ use Rattle.std.specs.Prelude.{ℕ, Bool, ◌&&◌, ◌||◌}
 use Rattle.pic_isa.specs.declared.sources.Source.{Source}
 use Rattle.pic_isa.specs.declared.sources.Source.TheVariants.{T0, Int, Psp, Ad, Ssp, Ccp1, Tmr2, Tmr1, Ee, Bcl, Ccp2}
 use Rattle.pic_regs.specs.Bytes.{Byte, zeros, chosen, share_a_bit, updated}
-use Rattle.pic_regs.specs.Map.{Reg, Absent, Indf, Pcl, Status, Fsr, Pclath, Intcon, Pir1, Pir2, Pie1, Pie2, Port, Tris, Plain, existing}
+use Rattle.pic_regs.specs.Map.{Reg, Absent, Indf, Pcl, Status, Fsr, Pclath, Intcon, Pir1, Pir2, Pie1, Pie2, Port, Tris, Plain, existing, over}
 
 -- The registers of the chip: those that control depends on, the latch, TRIS and pins of each port by its number, and
 -- all other bytes by their lowest address.
@@ -42,27 +42,26 @@ held (Plain address) r = r.plain address
 abbrev pub read : Reg → Registers → Byte
 read reg r = existing reg (held reg r)
 
--- The registers with a byte put into one of them. TO and PD of STATUS, bits 4 and 3, stay, and a port's byte goes to
--- its latch.
-abbrev pub put : Reg → Byte → Registers → Registers
-put Absent x r = r
-put Indf x r = r
-put Pcl x r = r
-put Status x r = record r { status = record x { b4 = r.status.b4; b3 = r.status.b3 } }
-put Fsr x r = record r { fsr = x }
-put Pclath x r = record r { pclath = x }
-put Intcon x r = record r { intcon = x }
-put Pir1 x r = record r { pir1 = x }
-put Pir2 x r = record r { pir2 = x }
-put Pie1 x r = record r { pie1 = x }
-put Pie2 x r = record r { pie2 = x }
-put (Port n) x r = record r { latch = updated r.latch n x }
-put (Tris n) x r = record r { tris = updated r.tris n x }
-put (Plain address) x r = record r { plain = updated r.plain address x }
+-- The registers with the byte of one of them changed: a port's is its latch.
+abbrev pub changed : Reg → (Byte → Byte) → Registers → Registers
+changed Absent change r = r
+changed Indf change r = r
+changed Pcl change r = r
+changed Status change r = record r { status = change r.status }
+changed Fsr change r = record r { fsr = change r.fsr }
+changed Pclath change r = record r { pclath = change r.pclath }
+changed Intcon change r = record r { intcon = change r.intcon }
+changed Pir1 change r = record r { pir1 = change r.pir1 }
+changed Pir2 change r = record r { pir2 = change r.pir2 }
+changed Pie1 change r = record r { pie1 = change r.pie1 }
+changed Pie2 change r = record r { pie2 = change r.pie2 }
+changed (Port n) change r = record r { latch = updated r.latch n (change (r.latch n)) }
+changed (Tris n) change r = record r { tris = updated r.tris n (change (r.tris n)) }
+changed (Plain address) change r = record r { plain = updated r.plain address (change (r.plain address)) }
 
--- What a write of a register leaves: the byte put into it, with 0 at each bit that does not exist.
+-- What a write of a register leaves: the byte stands there, but for bits that ignore writes.
 abbrev pub write : Reg → Byte → Registers → Registers
-write reg x r = put reg (existing reg x) r
+write reg x r = changed reg (λ old. over reg old x) r
 
 -- The registers with other pins at a port.
 abbrev pub with_pins : ℕ → Byte → Registers → Registers
