@@ -1,4 +1,5 @@
 pub mod BoundFacts
 pub mod CodeFacts
 pub mod MapFacts
+pub mod OneProgram
 pub mod RangeFacts

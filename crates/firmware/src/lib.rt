@@ -9,8 +9,10 @@ mod bounds;
 mod build;
 mod code;
 mod counters;
+mod laws;
 mod registers;
 
 pub use bounds::{Limits, limits_of};
 pub use build::{Built, compile};
 pub use counters::{Counter, SetupAt};
+pub use laws::one_program;

@@ -1,4 +1,5 @@
 pub mod NameFacts
 pub mod RowFacts
+pub mod UniqueNames
 pub mod WordExamples
 pub mod WordFacts
