@@ -5,19 +5,19 @@ use std::alloc::{AllocError, Global};
 
 /// What stands under a name after a call.
 #[derive(Clone, Copy, Debug, PartialEq, Eq)]
-pub enum Found {
+pub(crate) enum Found {
     Absent,
     Whole,
     Other,
 }
 
 /// How a call ended: its status, and what it left under the names of HEX and MAP.
-pub type Ended = (u8, Found, Found);
+pub(crate) type Ended = (u8, Found, Found);
 
 /// A call: its words, the source, where it is there, the numbers of the calls of files and of the sink that fail,
 /// whole HEX and MAP, and what it is to put.
 #[derive(Clone, Copy, Debug)]
-pub struct Call<'a> {
+pub(crate) struct Call<'a> {
     pub words: &'a [&'a str],
     pub source: Option<&'a [u8]>,
     pub files: &'a [u32],
@@ -82,10 +82,10 @@ fn may_run_out(ended: Ended) -> bool {
     hex == Found::Absent && map == Found::Absent || hex == Found::Whole && map != Found::Other
 }
 
-/// Whether a call ends so and puts just its line. Where memory ran out, which it does once at most, the call is
-/// made again.
-pub fn ends(alloc: Global, call: &Call<'_>, want: Ended) -> bool {
-    if let Ok((ended, put)) = attempt(alloc, call) {
+/// Whether a call ends so and puts just its line. Where memory ran out, which it does once at most, this says so on
+/// standard output, and the call is made again.
+pub(crate) fn ends(rt: &(impl AllocGlobal + Print), call: &Call<'_>, want: Ended) -> bool {
+    if let Ok((ended, put)) = attempt(rt.alloc(), call) {
         if ended.0 != NO_MEMORY {
             return ended == want && put;
         }
@@ -93,5 +93,6 @@ pub fn ends(alloc: Global, call: &Call<'_>, want: Ended) -> bool {
             return false;
         }
     }
-    attempt(alloc, call) == Ok((want, true))
+    let _ = println!(rt; "memory ran out");
+    attempt(rt.alloc(), call) == Ok((want, true))
 }

@@ -62,57 +62,69 @@ fn padded(alloc: Global, length: usize) -> Result<Vec<u8>, AllocError> {
 #[test]
 fn compiles_a_counter(rt: HostRuntime) {
     let call = compile(Some(COUNTER.as_bytes()), SUMMARY);
-    assert!(rt; ends(rt.alloc(), &call, (0, Found::Whole, Found::Whole)));
+    assert!(rt; ends(&rt, &call, (0, Found::Whole, Found::Whole)));
 }
 
 #[test]
 fn refuses_what_is_no_counter(rt: HostRuntime) {
     for source in [TWO_DEFINITIONS, ""] {
         let call = compile(Some(source.as_bytes()), "refused: form\n");
-        assert!(rt; ends(rt.alloc(), &call, (1, Found::Absent, Found::Absent)));
+        assert!(rt; ends(&rt, &call, (1, Found::Absent, Found::Absent)));
     }
 }
 
 #[test]
 fn says_what_is_missing(rt: HostRuntime) {
     let call = compile(None, "missing: b.frp\n");
-    assert!(rt; ends(rt.alloc(), &call, (3, Found::Absent, Found::Absent)));
+    assert!(rt; ends(&rt, &call, (3, Found::Absent, Found::Absent)));
+}
+
+// Whether a compile ends so where these calls of files and of the sink fail.
+fn fails<'a>(
+    rt: &(impl AllocGlobal + Print),
+    files: &'a [u32],
+    puts: &'a [u32],
+    put: &'a str,
+    want: Ended,
+) -> bool {
+    let call = Call {
+        words: &["compile", SOURCE, HEX, MAP],
+        source: Some(COUNTER.as_bytes()),
+        files,
+        puts,
+        hex: COUNTER_HEX,
+        map: COUNTER_MAP,
+        put,
+    };
+    ends(rt, &call, want)
 }
 
 #[test]
-fn says_which_call_failed(rt: HostRuntime) {
-    let source = Some(COUNTER.as_bytes());
-    let cases: [(&[u32], &[u32], &str, Ended); 4] = [
-        (
-            &[0],
-            &[],
-            "read failed: b.frp\n",
-            (4, Found::Absent, Found::Absent),
-        ),
-        (
-            &[1],
-            &[],
-            "write failed: b.hex\n",
-            (5, Found::Absent, Found::Absent),
-        ),
-        (
-            &[2],
-            &[],
-            "write failed: b.map\n",
-            (5, Found::Whole, Found::Absent),
-        ),
-        (&[], &[0], "", (5, Found::Whole, Found::Whole)),
-    ];
-    for (files, puts, put, want) in cases {
-        let mut call = compile(source, put);
-        call.files = files;
-        call.puts = puts;
-        assert!(rt; ends(rt.alloc(), &call, want), "{put}");
-    }
+fn says_that_the_read_failed(rt: HostRuntime) {
+    let want = (4, Found::Absent, Found::Absent);
+    assert!(rt; fails(&rt, &[0], &[], "read failed: b.frp\n", want));
+}
+
+#[test]
+fn says_that_the_first_write_failed(rt: HostRuntime) {
+    let want = (5, Found::Absent, Found::Absent);
+    assert!(rt; fails(&rt, &[1], &[], "write failed: b.hex\n", want));
+}
+
+#[test]
+fn says_that_the_second_write_failed(rt: HostRuntime) {
+    let want = (5, Found::Whole, Found::Absent);
+    assert!(rt; fails(&rt, &[2], &[], "write failed: b.map\n", want));
+}
+
+#[test]
+fn tells_by_its_status_that_the_put_failed(rt: HostRuntime) {
+    let want = (5, Found::Whole, Found::Whole);
+    assert!(rt; fails(&rt, &[], &[0], "", want));
 }
 
 // Whether these words are answered with the usage line.
-fn form_no_command(alloc: Global, words: &[&str]) -> bool {
+fn form_no_command(rt: &(impl AllocGlobal + Print), words: &[&str]) -> bool {
     let call = Call {
         words,
         source: Some(COUNTER.as_bytes()),
@@ -122,35 +134,40 @@ fn form_no_command(alloc: Global, words: &[&str]) -> bool {
         map: COUNTER_MAP,
         put: USAGE,
     };
-    ends(alloc, &call, (2, Found::Absent, Found::Absent))
+    ends(rt, &call, (2, Found::Absent, Found::Absent))
 }
 
 #[test]
 fn answers_other_words_with_the_usage_line(rt: HostRuntime) {
-    let alloc = rt.alloc();
-    assert!(rt; form_no_command(alloc, &[]));
-    assert!(rt; form_no_command(alloc, &["--help"]));
-    assert!(rt; form_no_command(alloc, &["compile", SOURCE, HEX]));
-    assert!(rt; form_no_command(alloc, &["compile", SOURCE, "", MAP]));
-    assert!(rt; form_no_command(alloc, &["compile", SOURCE, "-o", MAP]));
-    assert!(rt; form_no_command(alloc, &["compile", SOURCE, HEX, HEX]));
+    assert!(rt; form_no_command(&rt, &[]));
+    assert!(rt; form_no_command(&rt, &["--help"]));
+    assert!(rt; form_no_command(&rt, &["compile", SOURCE, HEX]));
+    assert!(rt; form_no_command(&rt, &["compile", SOURCE, "", MAP]));
+    assert!(rt; form_no_command(&rt, &["compile", SOURCE, "-o", MAP]));
+    assert!(rt; form_no_command(&rt, &["compile", SOURCE, HEX, HEX]));
 }
 
 #[test]
 fn answers_commands_to_come_with_the_usage_line(rt: HostRuntime) {
-    let alloc = rt.alloc();
-    assert!(rt; form_no_command(alloc, &["check", SOURCE]));
-    assert!(rt; form_no_command(alloc, &["run", HEX, MAP, "b.script"]));
-    assert!(rt; form_no_command(alloc, &["model", SOURCE, "b.events"]));
-    assert!(rt; form_no_command(alloc, &["big", "7", HEX, MAP]));
+    assert!(rt; form_no_command(&rt, &["check", SOURCE]));
+    assert!(rt; form_no_command(&rt, &["run", HEX, MAP, "b.script"]));
+    assert!(rt; form_no_command(&rt, &["model", SOURCE, "b.events"]));
+    assert!(rt; form_no_command(&rt, &["big", "7", HEX, MAP]));
 }
 
 // Whether a counter that blanks make this long ends so.
-fn long_ends(alloc: Global, length: usize, put: &str, want: Ended) -> bool {
-    let Ok(text) = padded(alloc, length).or_else(|_| padded(alloc, length)) else {
-        return false;
+fn long_ends(rt: &(impl AllocGlobal + Print), length: usize, put: &str, want: Ended) -> bool {
+    let text = match padded(rt.alloc(), length) {
+        Ok(text) => text,
+        Err(AllocError) => {
+            let _ = println!(rt; "memory ran out");
+            let Ok(text) = padded(rt.alloc(), length) else {
+                return false;
+            };
+            text
+        }
     };
-    ends(alloc, &compile(Some(text.as_slice()), put), want)
+    ends(rt, &compile(Some(text.as_slice()), put), want)
 }
 
 #[test]
@@ -163,6 +180,6 @@ fn keeps_the_limits_on_lengths(rt: HostRuntime) {
         (1_048_577, "refused: long b.frp\n", refused),
     ];
     for (length, put, want) in cases {
-        assert!(rt; long_ends(rt.alloc(), length, put, want), "{length}");
+        assert!(rt; long_ends(&rt, length, put, want), "{length}");
     }
 }
