@@ -10,43 +10,7 @@ use Rattle.frp_tree.specs.Digits.{hex_digit, hex2}
 use Rattle.hex_file.specs.declared.images.Word.{Word}
 use Rattle.hex_file.specs.declared.images.Image.{Image}
 use Rattle.hex_file.specs.ImageOf.{HexRecord, record_bytes, IsAllowed, IsRecordLine, nonempty_lines, GivesByte, IsGiven, HasByte, GivesWord, AreProgramWords, AreBytesAside, IsImageOf}
-
--- The digits of a record, read back.
-
-abbrev undigit : ℕ → ℕ
-undigit d = if nat_lt d 58 then d - 48 else d - 55
-
-abbrev unhex : List ℕ → List ℕ
-unhex [] = []
-unhex (high ∷ []) = []
-unhex (high ∷ low ∷ digits) = (16 * undigit high + undigit low) ∷ unhex digits
-
-undigit-hex_digit : (n : ℕ) → n < 16 → undigit (hex_digit n) ≡ n
-undigit-hex_digit n small = grind (arith, nat_tests)
-
-unhex-hex2 : (bytes : List ℕ) → All (λ byte. byte < 256) bytes → unhex (flat_map hex2 bytes) ≡ bytes
-unhex-hex2 [] fit = refl
-unhex-hex2 (b ∷ bs) fit =
-    let small : b < 256 = fit 0 0 (omega arith) in
-    let high : undigit (hex_digit (b / 16)) ≡ b / 16 = undigit-hex_digit (b / 16) (omega arith) in
-    let low : undigit (hex_digit (b % 16)) ≡ b % 16 = undigit-hex_digit (b % 16) (omega arith) in
-    let rest : unhex (flat_map hex2 bs) ≡ bs = unhex-hex2 bs (λ k d below. fit (suc k) d (omega arith)) in
-    let whole : 16 * (b / 16) + b % 16 ≡ b = omega arith in
-    rw (high, low, rest, whole)
-
--- The bytes of a line's record are those that its digits spell.
-bytes_of_line : (line : List ℕ) (r : HexRecord) (is : IsRecordLine line r) → record_bytes r is.check ≡ unhex (drop 1 (str_to_ascii_uppercase line))
-bytes_of_line line r is = sym (ap (λ l. unhex (drop 1 l)) is.spelled ∙ unhex-hex2 (record_bytes r is.check) is.bytes)
-
--- Tests that give the parts of a record's line.
-
-all_bytes : (bytes : List ℕ) → list_all (λ byte. nat_lt byte 256) bytes ≡ true → All (λ byte. byte < 256) bytes
-all_bytes bytes passes k d below = ltb-true _ 256 (AllPass-from_list_all (λ byte. nat_lt byte 256) bytes passes k d below)
-
-record_line : (line : List ℕ) (r : HexRecord) (check : ℕ) → str_to_ascii_uppercase line ≡ codes ":" ++ flat_map hex2 (record_bytes r check)
-    → list_all (λ byte. nat_lt byte 256) (record_bytes r check) ≡ true → sum (record_bytes r check) % 256 ≡ 0 → IsAllowed r → IsRecordLine line r
-record_line line r check spelled fits balanced allowed =
-    record { check = check; spelled = spelled; bytes = all_bytes (record_bytes r check) fits; balanced = balanced; allowed = allowed }
+use Rattle.hex_file.proofs.LineFacts.{bytes_of_line, record_line}
 
 -- The records of the file: the upper address, the word 2800h at 0, the configuration word 3F3Ah, and the end.
 

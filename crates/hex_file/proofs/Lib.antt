@@ -2,5 +2,7 @@ pub mod ByteFacts
 pub mod CheckFacts
 mod Examples
 mod ImageExamples
+pub mod ImageFacts
+pub mod LineFacts
 pub mod Rises
 pub mod RunFacts
