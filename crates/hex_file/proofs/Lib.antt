@@ -1,5 +1,8 @@
 pub mod ByteFacts
 pub mod CheckFacts
 mod Examples
+mod ImageExamples
+pub mod ImageFacts
+pub mod LineFacts
 pub mod Rises
 pub mod RunFacts

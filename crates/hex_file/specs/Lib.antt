@@ -1,2 +1,3 @@
+pub mod ImageOf
 pub mod Kinds
 pub mod Written
