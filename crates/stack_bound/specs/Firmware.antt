@@ -2,7 +2,8 @@ use Rattle.std.specs.Prelude.{◌≡◌, ℕ, ◌+◌, ◌*◌, ◌<◌, ◌≤�
 use Rattle.std.specs.List.{flat_map, list_any, AllByRecursion}
 use Rattle.frp_tree.specs.declared.syntax.Ty.{Ty}
 use Rattle.frp_tree.specs.declared.syntax.Ty.TheVariants as ty
-use Rattle.frp_tree.specs.Tree.{ProgramTree}
+use Rattle.frp_tree.specs.declared.syntax.Event.{Event}
+use Rattle.frp_tree.specs.Tree.{DeclTree, ProgramTree}
 use Rattle.frp_tree.specs.Needs.{is_plain}
 use Rattle.frp_tree.specs.Bounds.{words_bound, ram_bound, settle_bound, levels}
 use Rattle.pic_isa.specs.Names.{port_at, register_at}
@@ -19,6 +20,7 @@ use Rattle.pic_machine.specs.Run.{Log, arrivals_of, run}
 use Rattle.hex_file.specs.declared.images.Image.{Image}
 use Rattle.hex_file.specs.Written.{IsWritable, written}
 use Rattle.hex_file.specs.ImageOf.{IsImageOf}
+use Rattle.map_file.specs.declared.maps.MapEvent.{MapEvent}
 use Rattle.map_file.specs.declared.maps.MapState.{MapState}
 use Rattle.map_file.specs.declared.maps.Map.{Map}
 use Rattle.map_file.specs.MapRules.{AllDiffer, IsMap}
@@ -50,11 +52,21 @@ bytes_of ty.U16 low high = low ∷ high ∷ []
 abbrev pub state_addresses : Map → List ℕ
 state_addresses m = flat_map (λ (s : MapState). bytes_of s.ty s.low s.high) m.states
 
+-- The event that a map's event stands for; a state and a definition by name and type.
+abbrev pub event_of : MapEvent → Event
+event_of e = record { name = e.name; source = source_name e.source; priority = e.priority }
+
+abbrev pub typed_state : MapState → List ℕ × Ty
+typed_state s = (s.name, s.ty)
+
+abbrev pub typed_decl : DeclTree → List ℕ × Ty
+typed_decl d = (d.name, d.ty)
+
 -- The map's events, states and outputs are the program's, in declaration order. The code addresses that it names differ and
 -- have words in the image. The states' bytes are listed, and differ in bytes of general RAM outside 70h to 7Fh.
 pub record Names (p : ProgramTree) (image : Image) (m : Map) : Type 0 where
-  pub events : map (λ e. (e.name, source_name e.source, e.priority)) m.events ≡ map (λ e. (e.name, e.source, e.priority)) p.events
-  pub states : map (λ s. (s.name, s.ty)) m.states ≡ map (λ d. (d.name, d.ty)) (filter (λ d. not (is_plain d.behaviour)) p.decls)
+  pub events : map event_of m.events ≡ p.events
+  pub states : map typed_state m.states ≡ map typed_decl (filter (λ d. not (is_plain d.behaviour)) p.decls)
   pub outputs : map (λ port. Some port) m.outputs ≡ map (λ o. port_at o.port) p.outputs
   pub code_differs : AllDiffer (λ (a : ℕ). a) (code_addresses m)
   pub code_is_there : AllByRecursion (λ a. IsTrue (list_any (λ w. w.address == a) image.words)) (code_addresses m)

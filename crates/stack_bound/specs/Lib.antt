@@ -1,4 +1,5 @@
 pub mod Counts
+pub mod Firmware
 pub mod Follows
 pub mod MapNames
 pub mod Once
