@@ -1,6 +1,6 @@
 -- Boundaries: arrivals, takings, instructions and stops.
 use Rattle.std.specs.Prelude.{ℕ}
-use Rattle.std.proofs.Common.{◌≡◌, refl, Option, Some, None}
+use Rattle.std.proofs.Common.{◌≡◌, refl, None}
 use Rattle.pic_regs.specs.Arrivals.{set_of}
 use Rattle.pic_machine.specs.declared.steps.Did.TheVariants.{Took, Ran, Stopped}
 use Rattle.pic_machine.specs.declared.steps.Why.TheVariants.{UnknownWord, Sleep}

@@ -1,10 +1,10 @@
 -- Steps of a chip of which only the program counter, the bank and GIE are known compute: nothing else is asked of it.
 use Rattle.std.specs.Prelude.{ℕ}
-use Rattle.std.proofs.Common.{◌≡◌, refl, true, false, Some, None}
-use Rattle.pic_regs.specs.Bytes.{Byte, swapped, updated}
+use Rattle.std.proofs.Common.{◌≡◌, refl, true, false, Some}
+use Rattle.pic_regs.specs.Bytes.{updated}
 use Rattle.pic_regs.specs.Arrivals.{Sources, no_source}
 use Rattle.pic_machine.specs.Chip.{Chip}
-use Rattle.pic_machine.specs.Boundary.{Step, boundary, met}
+use Rattle.pic_machine.specs.Boundary.{boundary, met}
 
 -- The chip at an address, in bank 0 or 1, with GIE clear.
 abbrev in_bank_0 : ℕ → Chip → Chip

@@ -64,16 +64,16 @@ met arrivals c = record c { regs = arrived arrivals c.regs }
 abbrev pub boundary : (ℕ → ℕ) → Sources → Chip → Step
 boundary program arrivals c =
     let now = met arrivals c in
-    let then_ = turn (requested now.regs) (program now.pc) now in
+    let rest = turn (requested now.regs) (program now.pc) now in
     record {
       before = c;
       arrived = now;
-      after = then_.after;
+      after = rest.after;
       latched = latched arrivals c.regs;
       merged = merged arrivals c.regs;
-      did = then_.did;
-      wrote = then_.wrote;
-      port = then_.port;
+      did = rest.did;
+      wrote = rest.wrote;
+      port = rest.port;
     }
 
 -- A step as it is reported, with its sets as numbers.

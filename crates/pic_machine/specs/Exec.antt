@@ -7,7 +7,7 @@ use Rattle.pic_regs.specs.Bytes.{Byte, bits, bit, with_bit, zeros, is_zero, swap
 use Rattle.pic_regs.specs.Map.{Reg, Absent}
 use Rattle.pic_regs.specs.Registers.{Registers}
 use Rattle.pic_machine.specs.Chip.{Chip, advanced, skipping, pushed, popped, jumped, with_gie, named, got}
-use Rattle.pic_machine.specs.Results.{Result, Done, just, tested, sum, difference, one_more, one_less, both, either, differing, complement, turned_left, turned_right, leaves, gives}
+use Rattle.pic_machine.specs.Results.{Done, just, tested, sum, difference, one_more, one_less, both, either, differing, complement, turned_left, turned_right, leaves, gives}
 
 -- The seven bits that name an instruction's register, where it has one.
 abbrev pub field : Instr → Option ℕ

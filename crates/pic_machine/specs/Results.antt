@@ -2,7 +2,7 @@ use Rattle.std.specs.Prelude.{ℕ, ◌+◌, ◌-◌, ◌%◌, Bool, not, nat_le,
 use Rattle.pic_isa.specs.declared.instructions.Dest.{Dest}
 use Rattle.pic_isa.specs.declared.instructions.Dest.TheVariants.{W, F}
 use Rattle.pic_regs.specs.Bytes.{Byte, num, bits, is_zero, bit_by_bit}
-use Rattle.pic_regs.specs.Map.{Reg, Absent, Indf, Pcl, Status, Fsr, Pclath, Intcon, Pir1, Pir2, Pie1, Pie2, Port, Tris, Plain, lowest}
+use Rattle.pic_regs.specs.Map.{Reg, Indf, Pcl, Status, Port, lowest}
 use Rattle.pic_regs.specs.Registers.{Registers, write}
 use Rattle.pic_machine.specs.declared.steps.PortWrite.{PortWrite}
 use Rattle.pic_machine.specs.Chip.{Chip, led}
