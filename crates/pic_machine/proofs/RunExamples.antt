@@ -66,3 +66,7 @@ step_5_leaves_gie_set = refl
 
 step_6 : (step 6).did ≡ Ran 2 0x2802
 step_6 = refl
+
+-- Long after, the ready jump still runs.
+step_300 : (step 300).did ≡ Ran 2 0x2802
+step_300 = refl

@@ -43,8 +43,8 @@ abbrev pub counts : Dest → Reg → Byte → Chip → Option Done
 counts d r x c = gives d r (just x) (skipping (is_zero x) c)
 
 -- TO and PD set.
-abbrev pub watched : Chip → Chip
-watched c = record c { regs = record c.regs { status = record c.regs.status { b4 = true; b3 = true } } }
+abbrev pub watchdog_cleared : Chip → Chip
+watchdog_cleared c = record c { regs = record c.regs { status = record c.regs.status { b4 = true; b3 = true } } }
 
 -- What an instruction leaves, given its register `r` and the chip `c` with the program counter at the next address.
 -- SLEEP leaves nothing: it stops the machine.
@@ -74,7 +74,7 @@ exec_on (Btfss f b) r c = leaves (skipping (bit b (got r c)) c)  -- skip if bit 
 exec_on (Addlw k) r c = gives W r (sum c.w (bits k)) c  -- W = W + k: C, DC, Z
 exec_on (Andlw k) r c = gives W r (tested (both c.w (bits k))) c  -- W = W and k: Z
 exec_on (Call k) r c = leaves (jumped k (pushed c.pc c))  -- push the next address, PC = PCLATH 4:3 and k
-exec_on Clrwdt r c = leaves (watched c)  -- TO = PD = 1
+exec_on Clrwdt r c = leaves (watchdog_cleared c)  -- TO = PD = 1
 exec_on (Goto k) r c = leaves (jumped k c)  -- PC = PCLATH 4:3 and k
 exec_on (Iorlw k) r c = gives W r (tested (either c.w (bits k))) c  -- W = W or k: Z
 exec_on (Movlw k) r c = gives W r (just (bits k)) c  -- W = k

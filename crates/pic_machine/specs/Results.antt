@@ -12,7 +12,7 @@ pub data Flags : Type 0 where
   Same : Flags
   Zero : Bool → Flags
   Carry : Bool → Flags
-  Three : Bool → Bool → Bool → Flags
+  All : Bool → Bool → Bool → Flags
 
 -- The result of an instruction: its byte and its flags.
 pub record Result : Type 0 where
@@ -30,13 +30,13 @@ tested x = record { byte = x; flags = Zero (is_zero x) }
 abbrev pub sum : Byte → Byte → Result
 sum x y =
     let byte = bits (num x + num y) in
-    record { byte = byte; flags = Three (nat_lt 255 (num x + num y)) (nat_lt 15 (num x % 16 + num y % 16)) (is_zero byte) }
+    record { byte = byte; flags = All (nat_lt 255 (num x + num y)) (nat_lt 15 (num x % 16 + num y % 16)) (is_zero byte) }
 
 -- x - y. C and DC are 1 where there was no borrow, of the whole and of the lower half.
 abbrev pub difference : Byte → Byte → Result
 difference x y =
     let byte = bits (num x + 256 - num y) in
-    record { byte = byte; flags = Three (nat_le (num y) (num x)) (nat_le (num y % 16) (num x % 16)) (is_zero byte) }
+    record { byte = byte; flags = All (nat_le (num y) (num x)) (nat_le (num y % 16) (num x % 16)) (is_zero byte) }
 
 -- The byte after this one and the byte before it, around 256.
 abbrev pub one_more : Byte → Byte
@@ -72,7 +72,7 @@ abbrev pub with_flags : Flags → Byte → Byte
 with_flags Same status = status
 with_flags (Zero z) status = record status { b2 = z }
 with_flags (Carry c) status = record status { b0 = c }
-with_flags (Three c dc z) status = record status { b2 = z; b1 = dc; b0 = c }
+with_flags (All c dc z) status = record status { b2 = z; b1 = dc; b0 = c }
 
 abbrev pub flagged : Flags → Registers → Registers
 flagged flags r = record r { status = with_flags flags r.status }
