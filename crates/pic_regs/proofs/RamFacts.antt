@@ -1,5 +1,5 @@
 -- General RAM by its lowest address, whatever the address is.
-use Rattle.std.proofs.Common.{◌≡◌, ℕ, zero, suc, ◌<◌, Bool, true, false, ◌&&◌, ◌==◌, Option, Some, None, IsSome, refl, sym, ap, ◌∙◌, subst, ◌⊎◌, inl, inr, arith}
+use Rattle.std.proofs.Common.{◌≡◌, ℕ, zero, suc, ◌<◌, Bool, true, false, ◌&&◌, ◌==◌, Option, Some, None, refl, sym, ap, ◌∙◌, ◌⊎◌, inl, inr, arith}
 use Rattle.std.proofs.lemmas.Bool.{eqb-true}
 use Rattle.pic_regs.specs.Map.{Reg, Absent, Indf, Pcl, Status, Fsr, Pclath, Intcon, Pir1, Pir2, Pie1, Pie2, Port, Tris, Plain, reg_at}
 use Rattle.pic_regs.specs.Start.{ram_place}
@@ -50,7 +50,7 @@ each_below zero address all below = absurd (omega (arith, below))
 each_below (suc n) address all below =
     let parts = both_true (right n (ram_place n)) (all_below n) all in
     elim (below_or_at address n below) [
-      inl here ↦ ap (λ a. right a (ram_place a)) here ∙ parts.0
+      | inl here ↦ ap (λ a. right a (ram_place a)) here ∙ parts.0
       | inr less ↦ each_below n address parts.1 less
     ]
 
