@@ -1,8 +1,16 @@
-use Rattle.std.specs.Prelude.{ℕ, ◌+◌, ◌-◌, zero, suc, false, true, get_or, ◌||◌, ◌==◌, if◌then◌else◌, Option, Some, None}
+use Rattle.std.specs.Prelude.{◌≡◌, ℕ, ◌<◌, ◌+◌, ◌-◌, zero, suc, false, true, length, get_or, ◌||◌, ◌==◌, if◌then◌else◌, Option, Some, None}
+use Rattle.std.specs.List.{All}
 use Rattle.pic_regs.specs.declared.starts.Start.{Start}
 use Rattle.pic_regs.specs.Bytes.{Byte, bits, zeros, ones}
 use Rattle.pic_regs.specs.Map.{within}
 use Rattle.pic_regs.specs.Registers.{Registers}
+
+-- A start as it may be handed in: 368 bytes of RAM, and bytes for W and the flags.
+pub record IsStart (s : Start) : Type 0 where
+  pub places : length s.ram ≡ 368
+  pub bytes : All (λ byte. byte < 256) s.ram
+  pub w : s.w < 256
+  pub flags : s.flags < 256
 
 -- The place of a byte of general RAM among the 368, by its lowest address, in rising order; None for other addresses.
 abbrev pub ram_place : ℕ → Option ℕ
