@@ -14,6 +14,9 @@ return_has_no_free_bits = refl
 no_row_above : instruction_of 0x3B00 ≡ None
 no_row_above = refl
 
+no_row_past_14_bits : instruction_of 0x4700 ≡ None
+no_row_past_14_bits = refl
+
 absent_word : instruction_of 0x3FFF ≡ Some (Addlw 0xFF)
 absent_word = refl
 

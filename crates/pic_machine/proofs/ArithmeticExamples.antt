@@ -1,6 +1,6 @@
 -- Results and flags, by the data sheet's rules. STATUS is 18h with no flag; Z counts 4 in it, DC 2 and C 1.
 use Rattle.std.specs.Prelude.{ℕ, ◌+◌}
-use Rattle.std.proofs.Common.{◌≡◌, refl, List, [], ◌∷◌}
+use Rattle.std.proofs.Common.{◌≡◌, refl}
 use Rattle.pic_machine.specs.Chip.{Chip}
 use Rattle.pic_machine.proofs.Settings.{fresh, with_w, with_status, with_byte, run_word, at, w_and_status}
 

@@ -1,6 +1,6 @@
 -- Boundaries: arrivals, takings, instructions and stops.
 use Rattle.std.specs.Prelude.{ℕ}
-use Rattle.std.proofs.Common.{◌≡◌, refl, Option, Some, None}
+use Rattle.std.proofs.Common.{◌≡◌, refl, None}
 use Rattle.pic_regs.specs.Arrivals.{set_of}
 use Rattle.pic_machine.specs.declared.steps.Did.TheVariants.{Took, Ran, Stopped}
 use Rattle.pic_machine.specs.declared.steps.Why.TheVariants.{UnknownWord, Sleep}
@@ -33,6 +33,14 @@ arrival_merges = refl
 
 one_merges_and_one_is_latched : stepped (step 0x0000 3 (chip 0x02 0 0)) ≡ nothing_written 1 2 (Ran 0x0123 0x0000)
 one_merges_and_one_is_latched = refl
+
+-- A merged arrival asks as the first one did.
+merged_and_taken : stepped (step 0x0000 2 (chip 0x92 0 0)) ≡ nothing_written 0 2 Took
+merged_and_taken = refl
+
+-- An arrival comes before the instruction: 108Bh, BCF INTCON,1, clears the flag that it just set.
+cleared_in_the_same_step : at 0x00B (step 0x108B 2 (chip 0x00 0 0)).after ≡ 0x00
+cleared_in_the_same_step = refl
 
 -- A taking wins over the instruction, which doesn't run: 305Ah is MOVLW 5Ah.
 taking_wins : stepped (step 0x305A 2 (chip 0x90 0 0)) ≡ nothing_written 2 0 Took

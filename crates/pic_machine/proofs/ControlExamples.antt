@@ -1,6 +1,6 @@
 -- Skips, jumps, the return stack and PCL, by the data sheet's rules.
 use Rattle.std.specs.Prelude.{ℕ}
-use Rattle.std.proofs.Common.{◌≡◌, refl, List, [], ◌∷◌, Option, Some, None, true, false}
+use Rattle.std.proofs.Common.{◌≡◌, refl, [], ◌∷◌, Some}
 use Rattle.pic_machine.specs.Chip.{Chip}
 use Rattle.pic_machine.proofs.Settings.{fresh, with_w, with_pc, with_depth, with_byte, step_of, run_word, run_words, at, pc_and_w, pc_and_depth, w_and_status}
 

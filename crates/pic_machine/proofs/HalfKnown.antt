@@ -1,10 +1,12 @@
 -- Steps of a chip of which only the program counter, the bank and GIE are known compute: nothing else is asked of it.
 use Rattle.std.specs.Prelude.{ℕ}
-use Rattle.std.proofs.Common.{◌≡◌, refl, true, false, Some, None}
-use Rattle.pic_regs.specs.Bytes.{Byte, swapped, updated}
+use Rattle.std.proofs.Common.{ap, Bool, ◌≡◌, refl, true, false, Some}
+use Rattle.pic_regs.specs.Bytes.{updated}
 use Rattle.pic_regs.specs.Arrivals.{Sources, no_source}
-use Rattle.pic_machine.specs.Chip.{Chip}
-use Rattle.pic_machine.specs.Boundary.{Step, boundary, met}
+use Rattle.pic_isa.specs.declared.sources.Source.{Source}
+use Rattle.pic_regs.specs.Registers.{flag}
+use Rattle.pic_machine.specs.Chip.{Chip, with_gie}
+use Rattle.pic_machine.specs.Boundary.{boundary, turn, with_arrivals}
 
 -- The chip at an address, in bank 0 or 1, with GIE clear.
 abbrev in_bank_0 : ℕ → Chip → Chip
@@ -40,7 +42,7 @@ status_saved_and_brought_back c = refl
 abbrev next_with : Sources → ℕ → Chip → Chip
 next_with arrivals word c = (boundary (λ address. word) arrivals c).after
 
-bank_0_chosen_under_arrivals : (c : Chip) (arrivals : Sources) → next_with arrivals 0x1283 (in_bank_1 20 c) ≡ met arrivals (in_bank_0 21 c)
+bank_0_chosen_under_arrivals : (c : Chip) (arrivals : Sources) → next_with arrivals 0x1283 (in_bank_1 20 c) ≡ with_arrivals arrivals (in_bank_0 21 c)
 bank_0_chosen_under_arrivals c arrivals = refl
 
 status_under_arrivals : (c : Chip) (a0 a1 a2 a3 : Sources) →
@@ -74,3 +76,11 @@ context_pclath c arrivals = refl
 
 context_leads_on : (c : Chip) (arrivals : Sources) → (brought_back arrivals (saved arrivals c)).pc ≡ 16
 context_leads_on c arrivals = refl
+
+-- GIE is no part of any flag: changing it leaves the flag of a source that isn't known.
+flag_apart_from_gie : (source : Source) (gie : Bool) (c : Chip) → flag source (with_gie gie c).regs ≡ flag source c.regs
+flag_apart_from_gie source gie c = refl
+
+-- The program may be unknown but for one word.
+gie_set_by_one_word : (program : ℕ → ℕ) (c : Chip) → program 20 ≡ 0x178B → (boundary program no_source (masked 20 c)).after ≡ with_gie true (masked 21 c)
+gie_set_by_one_word program c here = ap (λ word. (turn false word (masked 20 c)).after) here

@@ -1,11 +1,11 @@
 -- STATUS as a destination, INDF through FSR, places that are not implemented, and ports, by the data sheet's rules
 -- and this project's own choices.
 use Rattle.std.specs.Prelude.{ℕ}
-use Rattle.std.proofs.Common.{◌≡◌, refl, List, [], ◌∷◌, Option, Some, None}
+use Rattle.std.proofs.Common.{◌≡◌, refl, [], ◌∷◌, Some, None}
 use Rattle.pic_regs.specs.Bytes.{num, bits}
 use Rattle.pic_regs.specs.Registers.{with_pins}
 use Rattle.pic_machine.specs.Chip.{Chip}
-use Rattle.pic_machine.proofs.Settings.{fresh, with_w, with_pc, with_status, with_byte, step_of, run_word, run_words, at, w_and_status}
+use Rattle.pic_machine.proofs.Settings.{fresh, with_w, with_status, with_byte, step_of, run_word, run_words, at, w_and_status}
 
 -- SWAPF STATUS,W from STATUS 1Dh, and the way that firmware saves STATUS and brings it back.
 swapf_status : w_and_status (run_word 0x0E03 (with_status 0x1D fresh)) ≡ (0xD1, 0x1D)

@@ -1,15 +1,14 @@
 -- Runs from power-on.
 use Rattle.std.specs.Prelude.{ℕ}
-use Rattle.std.proofs.Common.{◌≡◌, refl, List, [], ◌∷◌, Option, Some, None, replicate}
+use Rattle.std.proofs.Common.{◌≡◌, refl, List, [], ◌∷◌, Some, None, replicate}
 use Rattle.hex_file.specs.declared.images.Word.{Word}
 use Rattle.hex_file.specs.declared.images.Image.{Image}
 use Rattle.pic_regs.specs.declared.starts.Start.{Start}
 use Rattle.pic_regs.specs.Bytes.{num}
 use Rattle.pic_regs.specs.Arrivals.{Sources, set_of, number_of}
 use Rattle.pic_machine.specs.declared.steps.Did.TheVariants.{Took, Ran}
-use Rattle.pic_machine.specs.Chip.{Chip}
 use Rattle.pic_machine.specs.Boundary.{Step}
-use Rattle.pic_machine.specs.Run.{program_of, power_on, run}
+use Rattle.pic_machine.specs.Run.{program_of, run}
 use Rattle.pic_machine.proofs.Settings.{at}
 
 abbrev word : ℕ → ℕ → Word
@@ -67,3 +66,7 @@ step_5_leaves_gie_set = refl
 
 step_6 : (step 6).did ≡ Ran 2 0x2802
 step_6 = refl
+
+-- Long after, the ready jump still runs.
+step_300 : (step 300).did ≡ Ran 2 0x2802
+step_300 = refl

@@ -1,8 +1,8 @@
 -- Chips for the examples.
-use Rattle.std.specs.Prelude.{ℕ, List, [], ◌∷◌, replicate, Option, Some, None}
-use Rattle.pic_regs.specs.Bytes.{Byte, num, bits}
-use Rattle.pic_regs.specs.Map.{Reg, Absent, reg_at}
-use Rattle.pic_regs.specs.Registers.{Registers, read, write}
+use Rattle.std.specs.Prelude.{ℕ, List, [], ◌∷◌, replicate}
+use Rattle.pic_regs.specs.Bytes.{num, bits}
+use Rattle.pic_regs.specs.Map.{reg_at}
+use Rattle.pic_regs.specs.Registers.{read, write}
 use Rattle.pic_regs.specs.Arrivals.{no_source}
 use Rattle.pic_machine.specs.Chip.{Chip}
 use Rattle.pic_machine.specs.Boundary.{Step, boundary}

@@ -56,24 +56,24 @@ pub record Step : Type 0 where
   pub port : Option PortWrite
 
 -- The chip with the flags of arriving sources set.
-abbrev pub met : Sources → Chip → Chip
-met arrivals c = record c { regs = arrived arrivals c.regs }
+abbrev pub with_arrivals : Sources → Chip → Chip
+with_arrivals arrivals c = record c { regs = arrived arrivals c.regs }
 
 -- A step of the chip: each arriving source is latched or merged, and then a requested interrupt is taken, or else the
 -- word at the program counter runs.
 abbrev pub boundary : (ℕ → ℕ) → Sources → Chip → Step
 boundary program arrivals c =
-    let now = met arrivals c in
-    let then_ = turn (requested now.regs) (program now.pc) now in
+    let now = with_arrivals arrivals c in
+    let rest = turn (requested now.regs) (program now.pc) now in
     record {
       before = c;
       arrived = now;
-      after = then_.after;
+      after = rest.after;
       latched = latched arrivals c.regs;
       merged = merged arrivals c.regs;
-      did = then_.did;
-      wrote = then_.wrote;
-      port = then_.port;
+      did = rest.did;
+      wrote = rest.wrote;
+      port = rest.port;
     }
 
 -- A step as it is reported, with its sets as numbers.

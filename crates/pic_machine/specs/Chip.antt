@@ -1,5 +1,5 @@
-use Rattle.std.specs.Prelude.{ℕ, ◌+◌, ◌-◌, ◌*◌, ◌%◌, min, Bool, if◌then◌else◌, true}
-use Rattle.pic_regs.specs.Bytes.{Byte, num, bits, zeros, one_if, updated}
+use Rattle.std.specs.Prelude.{ℕ, ◌+◌, ◌-◌, ◌*◌, ◌%◌, min, Bool, if◌then◌else◌}
+use Rattle.pic_regs.specs.Bytes.{Byte, num, bits, one_if, updated}
 use Rattle.pic_regs.specs.Map.{Reg, Indf, Pcl, Pclath, reg_at, reg_in}
 use Rattle.pic_regs.specs.Registers.{Registers, read}
 

@@ -1,4 +1,5 @@
 pub mod ArrivalFacts
 pub mod ByteFacts
 pub mod MapExamples
+pub mod RamFacts
 pub mod RegisterExamples

@@ -1,7 +1,8 @@
 -- The register map, by the data sheet's table of data memory.
-use Rattle.std.proofs.Common.{◌≡◌, ℕ, zero, suc, ◌+◌, ◌*◌, ◌/◌, ◌%◌, ◌<◌, Bool, true, false, ◌&&◌, ◌||◌, not, nat_le, ◌==◌, List, [], ◌∷◌, map, Option, Some, None, refl, if◌then◌else◌, ap, ◌∙◌, arith}
+use Rattle.std.proofs.Common.{◌≡◌, ℕ, zero, suc, ◌+◌, ◌*◌, ◌/◌, ◌%◌, ◌<◌, Bool, true, false, ◌&&◌, not, nat_le, ◌==◌, [], ◌∷◌, map, Option, Some, None, refl, ap, ◌∙◌, arith}
+use Rattle.pic_isa.specs.Names.{setup_registers, ports as port_names}
 use Rattle.pic_regs.specs.Bytes.{one_if}
-use Rattle.pic_regs.specs.Map.{Reg, Absent, Indf, Pcl, Status, Fsr, Pclath, Intcon, Pir1, Pir2, Pie1, Pie2, Port, Tris, Plain, reg_at, reg_in, lowest, canonical}
+use Rattle.pic_regs.specs.Map.{Indf, Pcl, Status, Fsr, Pclath, Intcon, Pir1, Pir2, Pie1, Pie2, Port, Tris, reg_at, reg_in, canonical}
 use Rattle.pic_regs.specs.Start.{ram_place}
 
 abbrev is_none : Option ℕ → Bool
@@ -101,3 +102,10 @@ reg_at-bank bank f below =
     let address : ℕ = 128 * bank + f in
     ap (λ b. reg_in b (address % 128)) (let b : address / 128 ≡ bank = omega (arith, below) in b)
     ∙ ap (reg_in bank) (let r : address % 128 ≡ f = omega (arith, below) in r)
+
+-- A setup names a register by its lowest address, and a port's number counts from 005h.
+setup_registers_are_low : map (λ entry. canonical entry.1) setup_registers ≡ map (λ entry. Some entry.1) setup_registers
+setup_registers_are_low = refl
+
+ports_by_number : map (λ entry. reg_at (0x005 + entry.1)) port_names ≡ map (λ entry. Port entry.1) port_names
+ports_by_number = refl

@@ -21,15 +21,15 @@ ram_place address =
     else if within 0x190 0x1EF address then Some (address - 0x190 + 272)
     else None
 
--- A special register that is a plain byte at power-on: OPTION_REG and PR2 are FFh, the others 0.
+-- A special register that is a plain byte, at power-on: OPTION_REG and PR2 are FFh, the others 0.
 abbrev pub special_start : ℕ → Byte
 special_start address = if address == 0x081 || address == 0x092 then ones else zeros
 
--- A plain byte at power-on: one of general RAM is the start's.
+-- A plain byte at power-on, by its lowest address: one of general RAM is the start's.
 abbrev pub plain_start : Start → ℕ → Byte
 plain_start s address = elim (ram_place address) [ Some place ↦ bits (get_or s.ram place 0) | None ↦ special_start address ]
 
--- TRIS of a port at power-on: all pins are inputs.
+-- TRIS of a port at power-on: each of its bits that exist is 1, and all pins are inputs.
 abbrev pub tris_start : ℕ → Byte
 tris_start zero = bits 0x3F
 tris_start (suc (suc (suc (suc zero)))) = bits 0x07
