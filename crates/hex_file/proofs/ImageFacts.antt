@@ -10,7 +10,7 @@ use Rattle.hex_file.proofs.LineFacts.{records_of_lines, records_before_end}
 
 -- Two lists that rise by the same key and hold the same are the same.
 
-holds_none : {X : Type 0} (x : X) → ¬ Contains [] x
+pub holds_none : {X : Type 0} (x : X) → ¬ Contains [] x
 holds_none x among = let below : among.0 < 0 = among.1 in absurd (omega arith)
 
 holds_first : {X : Type 0} (x : X) (xs : List X) → Contains (x ∷ xs) x
@@ -23,7 +23,7 @@ held_at : {X : Type 0} (x y : X) (xs : List X) (k : ℕ) → k < length (x ∷ x
 held_at x y xs zero below e = inl e
 held_at x y xs (suc k) below e = inr (k, omega arith, e)
 
-held : {X : Type 0} (x y : X) (xs : List X) → Contains (x ∷ xs) y → (x ≡ y) ⊎ Contains xs y
+pub held : {X : Type 0} (x y : X) (xs : List X) → Contains (x ∷ xs) y → (x ≡ y) ⊎ Contains xs y
 held x y xs among = held_at x y xs among.0 among.1 among.2
 
 rising_rest : (k : ℕ) (ks : List ℕ) → IsStrictlyIncreasing (k ∷ ks) → IsStrictlyIncreasing ks

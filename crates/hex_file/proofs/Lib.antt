@@ -1,6 +1,7 @@
 pub mod ByteFacts
 pub mod CheckFacts
 mod Examples
+mod GivenBytes
 mod ImageExamples
 pub mod ImageFacts
 pub mod LineFacts

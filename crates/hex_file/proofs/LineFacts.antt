@@ -37,6 +37,10 @@ unhex-hex2 (b ∷ bs) fit =
 pub bytes_of_line : (line : List ℕ) (r : HexRecord) (is : IsRecordLine line r) → record_bytes r is.check ≡ unhex (drop 1 (str_to_ascii_uppercase line))
 bytes_of_line line r is = sym (ap (λ l. unhex (drop 1 l)) is.spelled ∙ unhex-hex2 (record_bytes r is.check) is.bytes)
 
+pub length-hex2 : (bytes : List ℕ) → length (flat_map hex2 bytes) ≡ 2 * length bytes
+length-hex2 [] = refl
+length-hex2 (b ∷ bytes) = let rest = length-hex2 bytes in omega arith
+
 -- Tests that give the parts of a record's line.
 
 pub all_bytes : (bytes : List ℕ) → list_all (λ byte. nat_lt byte 256) bytes ≡ true → All (λ byte. byte < 256) bytes
