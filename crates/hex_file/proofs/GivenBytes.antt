@@ -1,15 +1,9 @@
 -- The bytes that a list of records gives, one by one, and the records of an image's lines.
-use Rattle.std.proofs.Common.{◌≡◌, ◌≢◌, ℕ, zero, suc, ◌+◌, ◌-◌, ◌*◌, ◌/◌, ◌%◌, ◌<◌, ◌≤◌, ◌⊎◌, ◌↔◌, inl, inr, ⊎_elim, Bool, true, false, ◌&&◌, nat_lt, List, [], ◌∷◌, ◌++◌, length, drop, sum, Option, None, Some, refl, sym, ◌∙◌, ap, subst, codes, slice_get, slice_index, slice_index_or, if◌then◌else◌, IsTrue, lit<, lit≤, arith}
-use Rattle.std.proofs.lemmas.Bool.{ltb-true}
-use Rattle.std.proofs.lemmas.Bool.Decides.{nat_tests}
-use Rattle.std.proofs.lemmas.List.Sums.{AllPass-from_list_all}
+use Rattle.std.proofs.Common.{◌≡◌, ℕ, zero, suc, ◌+◌, ◌*◌, ◌%◌, ◌<◌, ◌⊎◌, inl, inr, ⊎_elim, List, [], ◌∷◌, ◌++◌, length, Option, None, Some, refl, sym, ◌∙◌, ap, subst, slice_get, slice_index_or, arith}
 use Rattle.std.proofs.lemmas.Option.{same_Some}
-use Rattle.std.specs.List.{All, AllZip, Contains, flat_map, last_or, list_all}
-use Rattle.std.specs.Str.{str_to_ascii_uppercase}
-use Rattle.frp_tree.specs.Digits.{hex_digit, hex2}
-use Rattle.hex_file.specs.declared.images.Word.{Word}
+use Rattle.std.specs.List.{AllZip, last_or}
 use Rattle.hex_file.specs.declared.images.Image.{Image}
-use Rattle.hex_file.specs.ImageOf.{HexRecord, record_bytes, IsAllowed, IsRecordLine, nonempty_lines, GivesByte, IsGiven, HasByte, GivesWord, AreProgramWords, AreBytesAside, IsImageOf}
+use Rattle.hex_file.specs.ImageOf.{HexRecord, IsRecordLine, nonempty_lines, GivesByte, HasByte, Agree, GivesWord, IsImageOf}
 
 -- The byte is one of a payload that starts at some address, or of a record's.
 
@@ -49,22 +43,22 @@ pub gives_byte : (records : List HexRecord) (address byte : ℕ) → IsFromRecor
 gives_byte [] address byte from = absurd from
 gives_byte (r ∷ records) address byte from = ⊎_elim
     (λ here. let at = place_of r.address r.payload address byte here.1 in
-        record { source = r; place = at.0; among = (0, omega arith, refl); is_data = here.0; value = at.1; at = at.2 })
+    record { source = r; place = at.0; among = (0, omega arith, refl); is_data = here.0; value = at.1; at = at.2 })
     (λ later. let g : GivesByte records address byte = gives_byte records address byte later in
-        record { source = g.source; place = g.place; among = (suc g.among.0, omega (arith, g.among.1), g.among.2); is_data = g.is_data; value = g.value; at = g.at })
+    record { source = g.source; place = g.place; among = (suc g.among.0, omega (arith, g.among.1), g.among.2); is_data = g.is_data; value = g.value; at = g.at })
     from
 
 -- Where no address has two bytes, none has two words.
 
 byte_at : (records : List HexRecord) (address first second : ℕ)
-    → ((address first second : ℕ) → GivesByte records address first → GivesByte records address second → first ≡ second)
+    → Agree records
     → HasByte records address first → HasByte records address second → first ≡ second
 byte_at records address first second agreed = ⊎_elim
     (λ a. ⊎_elim (λ b. agreed address first second a b) (λ none. absurd (none.0 (first, a))))
     (λ none. ⊎_elim (λ b. absurd (none.0 (second, b))) (λ also. none.1 ∙ sym also.1))
 
 pub word_at : (records : List HexRecord) (address first second : ℕ)
-    → ((address first second : ℕ) → GivesByte records address first → GivesByte records address second → first ≡ second)
+    → Agree records
     → GivesWord records address first → GivesWord records address second → second ≡ first
 word_at records address first second agreed a b =
     let low : a.low ≡ b.low = byte_at records (2 * address) a.low b.low agreed a.low_byte b.low_byte in
@@ -92,11 +86,11 @@ zipped_at_end (l ∷ lines) (r ∷ records) end first line zipped e = zipped_at_
 
 pub record_at : (bytes : List ℕ) (image : Image) (index : ℕ) (line : List ℕ) → IsImageOf bytes image → slice_get (nonempty_lines bytes) index ≡ Some line
     → (r : HexRecord) × IsRecordLine line r
-record_at bytes image index line is = zipped_at (nonempty_lines bytes) (is.records ++ is.end ∷ []) index line is.spelled
+record_at bytes image index line is = zipped_at (nonempty_lines bytes) (is.records ++ is.spelled.end ∷ []) index line is.spelled.lines
 
 pub end_at : (bytes : List ℕ) (image : Image) (line : List ℕ) (is : IsImageOf bytes image) → last_or None (nonempty_lines bytes) ≡ Some line
-    → IsRecordLine line is.end
-end_at bytes image line is = zipped_at_end (nonempty_lines bytes) is.records is.end None line is.spelled
+    → IsRecordLine line is.spelled.end
+end_at bytes image line is = zipped_at_end (nonempty_lines bytes) is.records is.spelled.end None line is.spelled.lines
 
 pub some_line : (records : List HexRecord) (end : HexRecord) → ¬ AllZip IsRecordLine [] (records ++ end ∷ [])
 some_line [] end zipped = zipped

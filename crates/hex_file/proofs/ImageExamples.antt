@@ -1,27 +1,18 @@
 -- What small files say, and files that say nothing.
-use Rattle.std.proofs.Common.{◌≡◌, ◌≢◌, ℕ, zero, suc, ◌+◌, ◌-◌, ◌*◌, ◌/◌, ◌%◌, ◌<◌, ◌≤◌, ◌⊎◌, ◌↔◌, inl, inr, ⊎_elim, Bool, true, false, ◌&&◌, nat_lt, List, [], ◌∷◌, ◌++◌, length, drop, sum, Option, None, Some, refl, sym, ◌∙◌, ap, subst, codes, slice_get, slice_index, slice_index_or, if◌then◌else◌, IsTrue, lit<, lit≤, arith}
-use Rattle.std.proofs.lemmas.Bool.{cases_lt, ltb-true}
-use Rattle.std.proofs.lemmas.Bool.Decides.{nat_tests}
-use Rattle.std.proofs.lemmas.List.Sums.{AllPass-from_list_all}
+use Rattle.std.proofs.Common.{◌≡◌, ◌≢◌, ℕ, zero, suc, ◌+◌, ◌*◌, ◌/◌, ◌%◌, ◌<◌, inl, inr, ⊎_elim, List, [], ◌∷◌, ◌++◌, length, drop, sum, Some, refl, sym, ap, subst, codes, slice_index, slice_index_or, lit<, lit≤, arith}
 use Rattle.std.proofs.lemmas.Option.{same_Some}
-use Rattle.std.specs.List.{All, AllZip, Contains, flat_map, last_or, list_all}
-use Rattle.std.specs.Str.{str_to_ascii_uppercase}
-use Rattle.frp_tree.specs.Digits.{hex_digit, hex2}
+use Rattle.std.specs.List.{All, AllZip, flat_map}
+use Rattle.frp_tree.specs.Digits.{hex2}
 use Rattle.hex_file.specs.declared.images.Word.{Word}
-use Rattle.hex_file.specs.declared.images.Aside.{Aside}
 use Rattle.hex_file.specs.declared.images.Image.{Image}
-use Rattle.hex_file.specs.ImageOf.{HexRecord, record_bytes, IsAllowed, IsRecordLine, nonempty_lines, GivesByte, IsGiven, HasByte, GivesWord, AreProgramWords, AreBytesAside, IsImageOf}
+use Rattle.hex_file.specs.ImageOf.{HexRecord, record_bytes, IsAllowed, IsRecordLine, nonempty_lines, GivesByte, Agree, GivesWord, AreProgramWords, AreBytesAside, IsImageOf}
 use Rattle.hex_file.proofs.GivenBytes.{given_bytes, gives_byte, word_at, record_at, end_at, some_line}
-use Rattle.hex_file.proofs.ImageFacts.{held, holds_none}
-use Rattle.hex_file.proofs.LineFacts.{bytes_of_line, length-hex2, record_line, records_of_lines, records_before_end}
+use Rattle.hex_file.proofs.LineFacts.{bytes_from, bytes_allowed, bytes_of_line, length-hex2, record_line, records_of_lines, records_before_end}
 
 -- The records of the file: the upper address, the word 2800h at 0, the configuration word 3F3Ah, and the end.
 
 abbrev upper : HexRecord
 upper = record { address = 0; kind = 4; payload = 0 ∷ 0 ∷ [] }
-
-abbrev bytes_from : ℕ → List ℕ → HexRecord
-bytes_from address payload = record { address = address; kind = 0; payload = payload }
 
 abbrev word : HexRecord
 word = bytes_from 0 (0 ∷ 0x28 ∷ [])
@@ -35,10 +26,6 @@ last = record { address = 0; kind = 1; payload = [] }
 upper_allowed : IsAllowed upper
 upper_allowed = record { known = lit≤ tt; in_range = λ e. cc; end_empty = λ e. cc; upper_zero = λ e. refl }
 
-bytes_allowed : (address : ℕ) (payload : List ℕ) → address + length payload ≤ 0x10000 → IsAllowed (bytes_from address payload)
-bytes_allowed address payload fits =
-    record { known = lit≤ tt; in_range = λ e. fits; end_empty = λ e. cc; upper_zero = ⊎_elim (λ e. cc) (λ e. cc) }
-
 last_allowed : IsAllowed last
 last_allowed = record { known = lit≤ tt; in_range = λ e. cc; end_empty = λ e. refl; upper_zero = ⊎_elim (λ e. cc) (λ e. cc) }
 
@@ -50,7 +37,7 @@ small_image = record { words = record { address = 0; word = 0x2800 } ∷ []; con
 abbrev Records : List HexRecord
 Records = upper ∷ word ∷ config ∷ []
 
-one_value : (address first second : ℕ) → GivesByte Records address first → GivesByte Records address second → first ≡ second
+one_value : Agree Records
 one_value address first second a b = let p = given_bytes Records address first a in let q = given_bytes Records address second b in omega arith
 
 low_of_word : GivesByte Records 0 0
@@ -67,19 +54,29 @@ high_of_config = gives_byte Records 0x400F 0x3F (inr (inr (inl (refl, inr (inl (
 
 the_word : GivesWord Records 0 0x2800
 the_word = record {
-  low = 0; high = 0x28; given = inl (0, low_of_word); low_byte = inl low_of_word; high_byte = inl high_of_word; value = refl;
+  low = 0;
+  high = 0x28;
+  given = inl (0, low_of_word);
+  low_byte = inl low_of_word;
+  high_byte = inl high_of_word;
+  value = refl;
 }
 
 only_word : (address value : ℕ) → address < 0x2000 → GivesWord Records address value → (address ≡ 0) × (value ≡ 0x2800)
 only_word address value small gives =
     let zero : address ≡ 0 = ⊎_elim
-        (λ g. let p = given_bytes Records (2 * address) g.0 g.1 in omega arith)
-        (λ g. let p = given_bytes Records (2 * address + 1) g.0 g.1 in omega arith) gives.given in
+    (λ g. let p = given_bytes Records (2 * address) g.0 g.1 in omega arith)
+    (λ g. let p = given_bytes Records (2 * address + 1) g.0 g.1 in omega arith) gives.given in
     (zero, word_at Records 0 _ _ one_value the_word (subst (λ a. GivesWord Records a value) zero gives))
 
 the_configuration : GivesWord Records 0x2007 0x3F3A
 the_configuration = record {
-  low = 0x3A; high = 0x3F; given = inl (0x3A, low_of_config); low_byte = inl low_of_config; high_byte = inl high_of_config; value = refl;
+  low = 0x3A;
+  high = 0x3F;
+  given = inl (0x3A, low_of_config);
+  low_byte = inl low_of_config;
+  high_byte = inl high_of_config;
+  value = refl;
 }
 
 one_item : {X : Type 0} (w x : X) (index : ℕ) → index < 1 → slice_index_or (w ∷ []) index x ≡ x → w ≡ x
@@ -94,7 +91,8 @@ words_are = record {
         let e = one_item _ _ among.0 among.1 among.2 in
         let small : address < 0x2000 = let zero : 0 ≡ address = ap (λ (w : Word). w.address) e in omega arith in
         let P : Word → Type 0 = λ w. GivesWord Records w.address w.word in (small, subst P e the_word),
-    λ gives. let only = only_word address value gives.0 gives.1 in (0, lit< tt, cc));
+    λ gives. let only = only_word address value gives.0 gives.1 in (0, lit< tt, cc),
+  );
 }
 
 aside_is : AreBytesAside Records []
@@ -102,7 +100,8 @@ aside_is = record {
   rising = λ k below. absurd (omega arith);
   exactly = λ address byte. (
     λ among. absurd (omega (arith, among.1)),
-    λ gives. let p = given_bytes Records address byte gives.3 in absurd (omega (arith, gives.0, gives.1, gives.2)));
+    λ gives. let p = given_bytes Records address byte gives.3 in absurd (omega (arith, gives.0, gives.1, gives.2)),
+  );
 }
 
 not_ended : (index : ℕ) (r : HexRecord) → index < 3 → (slice_index_or Records index r).kind ≢ 1
@@ -113,165 +112,58 @@ not_ended (suc (suc (suc index))) r below e = absurd (omega arith)
 
 image_of_lines : (bytes : List ℕ) → AllZip IsRecordLine (nonempty_lines bytes) (Records ++ last ∷ []) → IsImageOf bytes small_image
 image_of_lines bytes spelled = record {
-  records = Records; end = last; spelled = spelled; ended = refl; ended_once = not_ended; agreed = one_value; words = words_are;
+  records = Records;
+  spelled = record { end = last; lines = spelled; ended = refl; once = not_ended };
+  agreed = one_value;
+  words = words_are;
   config = λ value. (λ e. subst (GivesWord Records 0x2007) (same_Some _ _ e) the_configuration, λ gives. ap Some (sym (word_at Records 0x2007 _ _ one_value the_configuration gives)));
   aside = aside_is;
 }
 
 upper_case_and_line_feeds : IsImageOf (codes ":020000040000FA\n:020000000028D6\n:02400E003A3F37\n:00000001FF\n") small_image
 upper_case_and_line_feeds = image_of_lines _ (
-    record_line _ upper 0xFA refl refl refl upper_allowed, (
-    record_line _ word 0xD6 refl refl refl (bytes_allowed 0 _ (lit≤ tt)), (
-    record_line _ config 0x37 refl refl refl (bytes_allowed 0x400E _ (lit≤ tt)), (
-    record_line _ last 0xFF refl refl refl last_allowed, tt))))
+  record_line _ upper 0xFA refl refl refl upper_allowed,
+  (
+    record_line _ word 0xD6 refl refl refl (bytes_allowed 0 _ (lit≤ tt)),
+    (
+      record_line _ config 0x37 refl refl refl (bytes_allowed 0x400E _ (lit≤ tt)),
+      (
+        record_line _ last 0xFF refl refl refl last_allowed,
+        tt,
+      ),
+    ),
+  ),
+)
 
 lower_case_and_carriage_returns : IsImageOf (codes ":020000040000fa\r\n:020000000028d6\r\n:02400e003a3f37\r\n:00000001ff\r\n") small_image
 lower_case_and_carriage_returns = image_of_lines _ (
-    record_line _ upper 0xFA refl refl refl upper_allowed, (
-    record_line _ word 0xD6 refl refl refl (bytes_allowed 0 _ (lit≤ tt)), (
-    record_line _ config 0x37 refl refl refl (bytes_allowed 0x400E _ (lit≤ tt)), (
-    record_line _ last 0xFF refl refl refl last_allowed, tt))))
+  record_line _ upper 0xFA refl refl refl upper_allowed,
+  (
+    record_line _ word 0xD6 refl refl refl (bytes_allowed 0 _ (lit≤ tt)),
+    (
+      record_line _ config 0x37 refl refl refl (bytes_allowed 0x400E _ (lit≤ tt)),
+      (
+        record_line _ last 0xFF refl refl refl last_allowed,
+        tt,
+      ),
+    ),
+  ),
+)
 
 empty_lines_and_no_last_ending : IsImageOf (codes "\n:020000040000FA\n\r\n:020000000028D6\r\n:02400E003A3F37\n\n:00000001FF") small_image
 empty_lines_and_no_last_ending = image_of_lines _ (
-    record_line _ upper 0xFA refl refl refl upper_allowed, (
-    record_line _ word 0xD6 refl refl refl (bytes_allowed 0 _ (lit≤ tt)), (
-    record_line _ config 0x37 refl refl refl (bytes_allowed 0x400E _ (lit≤ tt)), (
-    record_line _ last 0xFF refl refl refl last_allowed, tt))))
-
--- Records in no order. They give one byte of the words at 2 and 2007h, bits above the 14 of the word at 0, the byte
--- at 5 twice, a byte aside, and a start address, which says nothing. The end record has an address.
-
-abbrev start : HexRecord
-start = record { address = 0; kind = 3; payload = 0 ∷ 0 ∷ 0x12 ∷ 0x34 ∷ [] }
-
-abbrev Mixed : List HexRecord
-Mixed = (bytes_from 0x400F (0x3F ∷ [])) ∷ (bytes_from 0x4000 (0x5A ∷ [])) ∷ start ∷ (bytes_from 5 (0x28 ∷ [])) ∷ (bytes_from 5 (0x28 ∷ []))
-    ∷ (bytes_from 0 (0x0C ∷ 0xF0 ∷ [])) ∷ []
-
-abbrev mixed_image : Image
-mixed_image = record {
-  words = record { address = 0; word = 0x300C } ∷ record { address = 2; word = 0x28FF } ∷ [];
-  config = Some 0x3FFF; aside = record { address = 0x4000; byte = 0x5A } ∷ [];
-}
-
-abbrev IsMixedByte : ℕ → ℕ → Type 0
-IsMixedByte address byte = (((address ≡ 0) × (byte ≡ 0x0C)) ⊎ ((address ≡ 1) × (byte ≡ 0xF0)))
-    ⊎ (((address ≡ 5) × (byte ≡ 0x28)) ⊎ (((address ≡ 0x4000) × (byte ≡ 0x5A)) ⊎ ((address ≡ 0x400F) × (byte ≡ 0x3F))))
-
-mixed_byte : (address byte : ℕ) → GivesByte Mixed address byte → IsMixedByte address byte
-mixed_byte address byte gives = ⊎_elim
-    (λ r. ⊎_elim (λ p. inr (inr (inr p))) (λ none. absurd none) r.1)
-    (⊎_elim (λ r. ⊎_elim (λ p. inr (inr (inl p))) (λ none. absurd none) r.1)
-    (⊎_elim (λ r. absurd cc)
-    (⊎_elim (λ r. ⊎_elim (λ p. inr (inl p)) (λ none. absurd none) r.1)
-    (⊎_elim (λ r. ⊎_elim (λ p. inr (inl p)) (λ none. absurd none) r.1)
-    (⊎_elim (λ r. inl (⊎_elim (λ p. inl p) (⊎_elim (λ p. inr p) (λ none. absurd none)) r.1)) (λ none. absurd none))))))
-    (given_bytes Mixed address byte gives)
-
-mixed_agreed : (address first second : ℕ) → GivesByte Mixed address first → GivesByte Mixed address second → first ≡ second
-mixed_agreed address first second a b = let p = mixed_byte address first a in let q = mixed_byte address second b in omega arith
-
-at_0 : GivesByte Mixed 0 0x0C
-at_0 = gives_byte Mixed 0 0x0C (inr (inr (inr (inr (inr (inl (refl, inl (refl, refl))))))))
-
-at_1 : GivesByte Mixed 1 0xF0
-at_1 = gives_byte Mixed 1 0xF0 (inr (inr (inr (inr (inr (inl (refl, inr (inl (refl, refl)))))))))
-
-at_5 : GivesByte Mixed 5 0x28
-at_5 = gives_byte Mixed 5 0x28 (inr (inr (inr (inl (refl, inl (refl, refl))))))
-
-at_0x4000 : GivesByte Mixed 0x4000 0x5A
-at_0x4000 = gives_byte Mixed 0x4000 0x5A (inr (inl (refl, inl (refl, refl))))
-
-at_0x400F : GivesByte Mixed 0x400F 0x3F
-at_0x400F = gives_byte Mixed 0x400F 0x3F (inl (refl, inl (refl, refl)))
-
-none_at_4 : ¬ IsGiven Mixed 4
-none_at_4 g = let p = mixed_byte 4 g.0 g.1 in absurd (omega arith)
-
-none_at_0x400E : ¬ IsGiven Mixed 0x400E
-none_at_0x400E g = let p = mixed_byte 0x400E g.0 g.1 in absurd (omega arith)
-
-mixed_word_0 : GivesWord Mixed 0 0x300C
-mixed_word_0 = record { low = 0x0C; high = 0xF0; given = inl (0x0C, at_0); low_byte = inl at_0; high_byte = inl at_1; value = refl }
-
-mixed_word_2 : GivesWord Mixed 2 0x28FF
-mixed_word_2 = record { low = 0xFF; high = 0x28; given = inr (0x28, at_5); low_byte = inr (none_at_4, refl); high_byte = inl at_5; value = refl }
-
-mixed_config : GivesWord Mixed 0x2007 0x3FFF
-mixed_config = record {
-  low = 0xFF; high = 0x3F; given = inr (0x3F, at_0x400F); low_byte = inr (none_at_0x400E, refl); high_byte = inl at_0x400F; value = refl;
-}
-
-only_word_0_or_2 : (address value : ℕ) → address < 0x2000 → GivesWord Mixed address value → Contains mixed_image.words (record { address = address; word = value })
-only_word_0_or_2 address value small gives = ⊎_elim
-    (λ below.
-        let zero : address ≡ 0 = omega arith in
-        let word : value ≡ 0x300C = word_at Mixed 0 _ _ mixed_agreed mixed_word_0 (subst (λ a. GivesWord Mixed a value) zero gives) in
-        (0, lit< tt, cc))
-    (λ above.
-        let two : address ≡ 2 = ⊎_elim
-            (λ g. let p = mixed_byte (2 * address) g.0 g.1 in omega arith)
-            (λ g. let p = mixed_byte (2 * address + 1) g.0 g.1 in omega arith) gives.given in
-        let word : value ≡ 0x28FF = word_at Mixed 2 _ _ mixed_agreed mixed_word_2 (subst (λ a. GivesWord Mixed a value) two gives) in
-        (1, lit< tt, cc))
-    (cases_lt address 1)
-
-mixed_words : AreProgramWords Mixed mixed_image.words
-mixed_words = record {
-  rising = λ k below. let first : k ≡ 0 = omega (arith, below) in rw first (lit< tt);
-  exactly = λ address value. (
-    λ among.
-        let P : Word → Type 0 = λ w. (w.address < 0x2000) × GivesWord Mixed w.address w.word in
-        ⊎_elim (λ e. subst P e (lit< tt, mixed_word_0))
-            (λ later. ⊎_elim (λ e. subst P e (lit< tt, mixed_word_2)) (λ none. absurd (holds_none _ none)) (held _ _ [] later))
-            (held _ _ (record { address = 2; word = 0x28FF } ∷ []) among),
-    λ gives. only_word_0_or_2 address value gives.0 gives.1);
-}
-
-mixed_aside : AreBytesAside Mixed mixed_image.aside
-mixed_aside = record {
-  rising = λ k below. absurd (omega (arith, below));
-  exactly = λ address byte. (
-    λ among.
-        let P : Aside → Type 0 = λ b. (0x4000 ≤ b.address) × (b.address ≢ 0x400E) × (b.address ≢ 0x400F) × GivesByte Mixed b.address b.byte in
-        ⊎_elim (λ e. subst P e (lit≤ tt, (λ e. omega (arith, e)), (λ e. omega (arith, e)), at_0x4000)) (λ none. absurd (holds_none _ none)) (held _ _ [] among),
-    λ gives.
-        let p = mixed_byte address byte gives.3 in
-        let address_is : address ≡ 0x4000 = omega (arith, gives.0, gives.1, gives.2) in
-        let byte_is : byte ≡ 0x5A = omega (arith, gives.0, gives.1, gives.2) in
-        (0, lit< tt, cc));
-}
-
-mixed_not_ended : (index : ℕ) (r : HexRecord) → index < 6 → (slice_index_or Mixed index r).kind ≢ 1
-mixed_not_ended zero r below e = cc
-mixed_not_ended (suc zero) r below e = cc
-mixed_not_ended (suc (suc zero)) r below e = cc
-mixed_not_ended (suc (suc (suc zero))) r below e = cc
-mixed_not_ended (suc (suc (suc (suc zero)))) r below e = cc
-mixed_not_ended (suc (suc (suc (suc (suc zero))))) r below e = cc
-mixed_not_ended (suc (suc (suc (suc (suc (suc index)))))) r below e = absurd (omega arith)
-
-mixed_records : IsImageOf
-    (codes ":01400F003F71\r\n:014000005a65\n:0400000300001234B3\n:0100050028D2\n:0100050028d2\n:020000000CF002\n:00123401B9") mixed_image
-mixed_records = record {
-  records = Mixed; end = record { address = 0x1234; kind = 1; payload = [] };
-  spelled = (
-    record_line _ (bytes_from 0x400F (0x3F ∷ [])) 0x71 refl refl refl (bytes_allowed 0x400F _ (lit≤ tt)), (
-    record_line _ (bytes_from 0x4000 (0x5A ∷ [])) 0x65 refl refl refl (bytes_allowed 0x4000 _ (lit≤ tt)), (
-    record_line _ start 0xB3 refl refl refl (record { known = lit≤ tt; in_range = λ e. cc; end_empty = λ e. cc; upper_zero = ⊎_elim (λ e. cc) (λ e. cc) }), (
-    record_line _ (bytes_from 5 (0x28 ∷ [])) 0xD2 refl refl refl (bytes_allowed 5 _ (lit≤ tt)), (
-    record_line _ (bytes_from 5 (0x28 ∷ [])) 0xD2 refl refl refl (bytes_allowed 5 _ (lit≤ tt)), (
-    record_line _ (bytes_from 0 (0x0C ∷ 0xF0 ∷ [])) 0x02 refl refl refl (bytes_allowed 0 _ (lit≤ tt)), (
-    record_line _ (record { address = 0x1234; kind = 1; payload = [] }) 0xB9 refl refl refl
-        (record { known = lit≤ tt; in_range = λ e. cc; end_empty = λ e. refl; upper_zero = ⊎_elim (λ e. cc) (λ e. cc) }), tt)))))));
-  ended = refl; ended_once = mixed_not_ended; agreed = mixed_agreed; words = mixed_words;
-  config = λ value. (
-    λ e. subst (GivesWord Mixed 0x2007) (same_Some _ _ e) mixed_config,
-    λ gives. ap Some (sym (word_at Mixed 0x2007 _ _ mixed_agreed mixed_config gives)));
-  aside = mixed_aside;
-}
+  record_line _ upper 0xFA refl refl refl upper_allowed,
+  (
+    record_line _ word 0xD6 refl refl refl (bytes_allowed 0 _ (lit≤ tt)),
+    (
+      record_line _ config 0x37 refl refl refl (bytes_allowed 0x400E _ (lit≤ tt)),
+      (
+        record_line _ last 0xFF refl refl refl last_allowed,
+        tt,
+      ),
+    ),
+  ),
+)
 
 -- Files with no image.
 
@@ -289,22 +181,22 @@ a_wrong_check_byte image is =
 
 no_end_record : (image : Image) → ¬ IsImageOf (codes ":020000040000FA\n:020000000028D6\n:02400E003A3F37\n") image
 no_end_record image is =
-    let last : IsRecordLine (codes ":02400E003A3F37") is.end = end_at _ image _ is refl in
-    let kind : is.end.kind ≡ 0 = ap (λ bytes. slice_index bytes 3) (bytes_of_line _ is.end last) in
+    let last : IsRecordLine (codes ":02400E003A3F37") is.spelled.end = end_at _ image _ is refl in
+    let kind : is.spelled.end.kind ≡ 0 = ap (λ bytes. slice_index bytes 3) (bytes_of_line _ is.spelled.end last) in
     absurd (omega arith)
 
 the_empty_file : (image : Image) → ¬ IsImageOf [] image
-the_empty_file image is = some_line is.records is.end is.spelled
+the_empty_file image is = some_line is.records is.spelled.end is.spelled.lines
 
 -- A CR at the very end is a byte of the line.
 a_carriage_return_at_the_end : (image : Image) → ¬ IsImageOf (codes ":00000001FF\r") image
 a_carriage_return_at_the_end image is =
-    let line : IsRecordLine (codes ":00000001FF\r") is.end = end_at _ image _ is refl in
-    let even : length (flat_map hex2 (record_bytes is.end line.check)) ≡ 11 = sym (ap (λ bytes. length (drop 1 bytes)) line.spelled) in
-    absurd (omega (arith, length-hex2 (record_bytes is.end line.check)))
+    let line : IsRecordLine (codes ":00000001FF\r") is.spelled.end = end_at _ image _ is refl in
+    let even : length (flat_map hex2 (record_bytes is.spelled.end line.check)) ≡ 11 = sym (ap (λ bytes. length (drop 1 bytes)) line.spelled) in
+    absurd (omega (arith, length-hex2 (record_bytes is.spelled.end line.check)))
 
 after_the_end_record : (image : Image) → ¬ IsImageOf (codes ":00000001FF\n:00000001FF\n") image
-after_the_end_record image is = two_ends is.records is.end is.ended_once is.spelled
+after_the_end_record image is = two_ends is.records is.spelled.end is.spelled.once is.spelled.lines
 
 an_upper_address_of_one : (image : Image) → ¬ IsImageOf (codes ":020000040001F9\n:00000001FF\n") image
 an_upper_address_of_one image is =
@@ -339,11 +231,17 @@ Clashing = (bytes_from 5 (0x28 ∷ [])) ∷ (bytes_from 5 (0x29 ∷ [])) ∷ []
 a_clash : (image : Image) → ¬ IsImageOf (codes ":0100050028D2\n:0100050029D1\n:00000001FF\n") image
 a_clash image is =
     let spelled : AllZip IsRecordLine (nonempty_lines (codes ":0100050028D2\n:0100050029D1\n:00000001FF\n")) (Clashing ++ last ∷ []) = (
-        record_line _ (bytes_from 5 (0x28 ∷ [])) 0xD2 refl refl refl (bytes_allowed 5 _ (lit≤ tt)), (
-        record_line _ (bytes_from 5 (0x29 ∷ [])) 0xD1 refl refl refl (bytes_allowed 5 _ (lit≤ tt)), (
-        record_line _ last 0xFF refl refl refl last_allowed, tt))) in
-    let all : is.records ++ is.end ∷ [] ≡ Clashing ++ last ∷ [] = records_of_lines (nonempty_lines (codes ":0100050028D2\n:0100050029D1\n:00000001FF\n")) _ _ is.spelled spelled in
-    let records : is.records ≡ Clashing = records_before_end is.records Clashing is.end last all in
+      record_line _ (bytes_from 5 (0x28 ∷ [])) 0xD2 refl refl refl (bytes_allowed 5 _ (lit≤ tt)),
+      (
+        record_line _ (bytes_from 5 (0x29 ∷ [])) 0xD1 refl refl refl (bytes_allowed 5 _ (lit≤ tt)),
+        (
+          record_line _ last 0xFF refl refl refl last_allowed,
+          tt,
+        ),
+      ),
+    ) in
+    let all : is.records ++ is.spelled.end ∷ [] ≡ Clashing ++ last ∷ [] = records_of_lines (nonempty_lines (codes ":0100050028D2\n:0100050029D1\n:00000001FF\n")) _ _ is.spelled.lines spelled in
+    let records : is.records ≡ Clashing = records_before_end is.records Clashing is.spelled.end last all in
     let one : GivesByte is.records 5 0x28 = subst (λ rs. GivesByte rs 5 0x28) (sym records) (gives_byte Clashing 5 0x28 (inl (refl, inl (refl, refl)))) in
     let other : GivesByte is.records 5 0x29 = subst (λ rs. GivesByte rs 5 0x29) (sym records) (gives_byte Clashing 5 0x29 (inr (inl (refl, inl (refl, refl))))) in
     let same : 0x28 ≡ 0x29 = is.agreed 5 0x28 0x29 one other in absurd (omega (arith, same))

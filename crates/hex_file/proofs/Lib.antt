@@ -5,5 +5,6 @@ mod GivenBytes
 mod ImageExamples
 pub mod ImageFacts
 pub mod LineFacts
+mod MixedExample
 pub mod Rises
 pub mod RunFacts
