@@ -1,8 +1,10 @@
 pub mod ByteFacts
 pub mod CheckFacts
 mod Examples
+mod GivenBytes
 mod ImageExamples
 pub mod ImageFacts
 pub mod LineFacts
+mod MixedExample
 pub mod Rises
 pub mod RunFacts

@@ -1,16 +1,12 @@
 -- The bytes of a record's line.
-use Rattle.std.proofs.Common.{◌≡◌, ◌≢◌, ℕ, zero, suc, ◌+◌, ◌-◌, ◌*◌, ◌/◌, ◌%◌, ◌<◌, ◌≤◌, ◌⊎◌, ◌↔◌, inl, inr, ⊎_elim, Bool, true, false, ◌&&◌, nat_lt, List, [], ◌∷◌, ◌++◌, length, drop, sum, Option, None, Some, refl, sym, ◌∙◌, ap, subst, codes, slice_get, slice_index, slice_index_or, if◌then◌else◌, IsTrue, lit<, lit≤, arith}
+use Rattle.std.proofs.Common.{◌≡◌, ℕ, suc, ◌+◌, ◌-◌, ◌*◌, ◌/◌, ◌%◌, ◌<◌, ◌≤◌, ⊎_elim, true, nat_lt, List, [], ◌∷◌, ◌++◌, length, drop, sum, refl, sym, ◌∙◌, ap, codes, if◌then◌else◌, lit≤, arith}
 use Rattle.std.proofs.lemmas.Bool.{ltb-true}
 use Rattle.std.proofs.lemmas.Bool.Decides.{nat_tests}
 use Rattle.std.proofs.lemmas.List.Sums.{AllPass-from_list_all}
-use Rattle.std.proofs.lemmas.Option.{same_Some}
-use Rattle.std.specs.List.{All, AllZip, Contains, flat_map, last_or, list_all}
+use Rattle.std.specs.List.{All, AllZip, flat_map, list_all}
 use Rattle.std.specs.Str.{str_to_ascii_uppercase}
 use Rattle.frp_tree.specs.Digits.{hex_digit, hex2}
-use Rattle.hex_file.specs.declared.images.Word.{Word}
-use Rattle.hex_file.specs.declared.images.Image.{Image}
-use Rattle.hex_file.specs.ImageOf.{HexRecord, record_bytes, IsAllowed, IsRecordLine, nonempty_lines, GivesByte, IsGiven, HasByte, GivesWord, AreProgramWords, AreBytesAside, IsImageOf}
-
+use Rattle.hex_file.specs.ImageOf.{HexRecord, record_bytes, IsAllowed, IsRecordLine}
 
 abbrev pub undigit : ℕ → ℕ
 undigit d = if nat_lt d 58 then d - 48 else d - 55
@@ -37,6 +33,10 @@ unhex-hex2 (b ∷ bs) fit =
 pub bytes_of_line : (line : List ℕ) (r : HexRecord) (is : IsRecordLine line r) → record_bytes r is.check ≡ unhex (drop 1 (str_to_ascii_uppercase line))
 bytes_of_line line r is = sym (ap (λ l. unhex (drop 1 l)) is.spelled ∙ unhex-hex2 (record_bytes r is.check) is.bytes)
 
+pub length-hex2 : (bytes : List ℕ) → length (flat_map hex2 bytes) ≡ 2 * length bytes
+length-hex2 [] = refl
+length-hex2 (b ∷ bytes) = let rest = length-hex2 bytes in omega arith
+
 -- Tests that give the parts of a record's line.
 
 pub all_bytes : (bytes : List ℕ) → list_all (λ byte. nat_lt byte 256) bytes ≡ true → All (λ byte. byte < 256) bytes
@@ -46,6 +46,15 @@ pub record_line : (line : List ℕ) (r : HexRecord) (check : ℕ) → str_to_asc
     → list_all (λ byte. nat_lt byte 256) (record_bytes r check) ≡ true → sum (record_bytes r check) % 256 ≡ 0 → IsAllowed r → IsRecordLine line r
 record_line line r check spelled fits balanced allowed =
     record { check = check; spelled = spelled; bytes = all_bytes (record_bytes r check) fits; balanced = balanced; allowed = allowed }
+
+-- A data record.
+
+abbrev pub bytes_from : ℕ → List ℕ → HexRecord
+bytes_from address payload = record { address = address; kind = 0; payload = payload }
+
+pub bytes_allowed : (address : ℕ) (payload : List ℕ) → address + length payload ≤ 0x10000 → IsAllowed (bytes_from address payload)
+bytes_allowed address payload fits =
+    record { known = lit≤ tt; in_range = λ e. fits; end_empty = λ e. cc; upper_zero = ⊎_elim (λ e. cc) (λ e. cc) }
 
 -- A line has one record at most.
 

@@ -41,6 +41,13 @@ pub record IsRecordLine (line : List ℕ) (r : HexRecord) : Type 0 where
 abbrev pub nonempty_lines : List ℕ → List (List ℕ)
 nonempty_lines bytes = filter (λ line. nat_lt 0 (length line)) (lines bytes)
 
+-- The lines that aren't empty are those of these records and of an end record (01) behind them, the only one.
+pub record SpellsRecords (bytes : List ℕ) (records : List HexRecord) : Type 0 where
+  pub end : HexRecord
+  pub lines : AllZip IsRecordLine (nonempty_lines bytes) (records ++ end ∷ [])
+  pub ended : end.kind ≡ 1
+  pub once : All (λ r. r.kind ≢ 1) records
+
 -- A data record gives this byte at this byte address.
 pub record GivesByte (records : List HexRecord) (address byte : ℕ) : Type 0 where
   pub source : HexRecord
@@ -50,8 +57,13 @@ pub record GivesByte (records : List HexRecord) (address byte : ℕ) : Type 0 wh
   pub value : slice_get source.payload place ≡ Some byte
   pub at : address ≡ source.address + place
 
+-- Some byte is given at this byte address.
 abbrev pub IsGiven : List HexRecord → ℕ → Type 0
 IsGiven records address = (byte : ℕ) × GivesByte records address byte
+
+-- No two values are given at one byte address. The same value may be given twice.
+abbrev pub Agree : List HexRecord → Type 0
+Agree records = (address first second : ℕ) → GivesByte records address first → GivesByte records address second → first ≡ second
 
 -- The byte at a byte address: one that is given, or FFh where none is.
 abbrev pub HasByte : List HexRecord → ℕ → ℕ → Type 0
@@ -76,18 +88,14 @@ pub record AreProgramWords (records : List HexRecord) (words : List Word) : Type
 pub record AreBytesAside (records : List HexRecord) (bytes : List Aside) : Type 0 where
   pub rising : IsStrictlyIncreasing (map (λ b. b.address) bytes)
   pub exactly : (address byte : ℕ) → Contains bytes (record { address = address; byte = byte })
-    ↔ ((0x4000 ≤ address) × (address ≢ 0x400E) × (address ≢ 0x400F) × GivesByte records address byte)
+      ↔ ((0x4000 ≤ address) × (address ≢ 0x400E) × (address ≢ 0x400F) × GivesByte records address byte)
 
--- What a file says. Its lines that aren't empty are those of some records and of one end record behind them. No
--- two values are given at one address. The configuration word is that at word address 2007h, byte address 400Eh,
--- where one is given. A file that breaks a rule has no image.
+-- What a file means. A file that breaks a rule has no image. The configuration word is at word address 2007h, byte
+-- address 400Eh, and there is none where neither of its bytes is given.
 pub record IsImageOf (bytes : List ℕ) (image : Image) : Type 0 where
   pub records : List HexRecord
-  pub end : HexRecord
-  pub spelled : AllZip IsRecordLine (nonempty_lines bytes) (records ++ end ∷ [])
-  pub ended : end.kind ≡ 1
-  pub ended_once : All (λ r. r.kind ≢ 1) records
-  pub agreed : (address first second : ℕ) → GivesByte records address first → GivesByte records address second → first ≡ second
+  pub spelled : SpellsRecords bytes records
+  pub agreed : Agree records
   pub words : AreProgramWords records image.words
   pub config : (word : ℕ) → (image.config ≡ Some word) ↔ GivesWord records 0x2007 word
   pub aside : AreBytesAside records image.aside
