@@ -1,0 +1,4 @@
+pub mod GoodFollows
+pub mod GoodLog
+pub mod GoodOnce
+pub mod Stories
