@@ -1,0 +1,10 @@
+pub mod Booted
+pub mod BrokenFollows
+pub mod BrokenOnce
+pub mod BrokenSettled
+pub mod BrokenUrgent
+pub mod BrokenValues
+pub mod GoodFollows
+pub mod GoodLog
+pub mod GoodOnce
+pub mod Stories
