@@ -111,7 +111,7 @@ each_below zero word all below = absurd (omega (arith, below))
 each_below (suc n) word all below =
     let parts = both_true (agrees n (instruction_of n)) (all_below n) all in
     elim (below_or_at word n below) [
-      inl here ↦ ap (λ w. agrees w (instruction_of w)) here ∙ parts.0
+      | inl here ↦ ap (λ w. agrees w (instruction_of w)) here ∙ parts.0
       | inr less ↦ each_below n word parts.1 less
     ]
   where
