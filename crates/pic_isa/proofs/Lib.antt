@@ -1,3 +1,4 @@
+pub mod DecodeFacts
 pub mod NameFacts
 pub mod RowFacts
 pub mod UniqueNames
