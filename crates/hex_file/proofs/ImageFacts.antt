@@ -13,10 +13,10 @@ use Rattle.hex_file.proofs.LineFacts.{records_of_lines, records_before_end}
 pub holds_none : {X : Type 0} (x : X) → ¬ Contains [] x
 holds_none x among = let below : among.0 < 0 = among.1 in absurd (omega arith)
 
-holds_first : {X : Type 0} (x : X) (xs : List X) → Contains (x ∷ xs) x
+pub holds_first : {X : Type 0} (x : X) (xs : List X) → Contains (x ∷ xs) x
 holds_first x xs = (0, omega arith, refl)
 
-holds_later : {X : Type 0} (x y : X) (xs : List X) → Contains xs y → Contains (x ∷ xs) y
+pub holds_later : {X : Type 0} (x y : X) (xs : List X) → Contains xs y → Contains (x ∷ xs) y
 holds_later x y xs among = (suc among.0, let below : among.0 < length xs = among.1 in omega arith, among.2)
 
 held_at : {X : Type 0} (x y : X) (xs : List X) (k : ℕ) → k < length (x ∷ xs) → slice_index_or (x ∷ xs) k y ≡ y → (x ≡ y) ⊎ Contains xs y

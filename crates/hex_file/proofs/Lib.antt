@@ -4,6 +4,7 @@ mod Examples
 mod GivenBytes
 mod ImageExamples
 pub mod ImageFacts
+pub mod ImageMade
 pub mod LineFacts
 mod MixedExample
 pub mod Rises
