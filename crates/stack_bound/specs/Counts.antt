@@ -12,7 +12,7 @@ use Rattle.pic_machine.specs.Run.{Log}
 use Rattle.map_file.specs.declared.maps.MapEvent.{MapEvent}
 use Rattle.map_file.specs.declared.maps.Map.{Map}
 
--- The chip after the first n steps of a log.
+-- The chip after the first n steps of a log. After none it is the one before step 0.
 abbrev pub chip_after : Log → ℕ → Chip
 chip_after log zero = (log zero).before
 chip_after log (suc n) = (log n).after

@@ -28,6 +28,7 @@ use Rattle.map_file.specs.MapText.{map_text}
 use Rattle.stack_bound.specs.MapNames.{is_listed}
 use Rattle.stack_bound.specs.Counts.{chip_after}
 use Rattle.stack_bound.specs.Follows.{Follows}
+use Rattle.stack_bound.specs.Setups.{SetupsStand}
 use Rattle.stack_bound.specs.Once.{Once}
 use Rattle.stack_bound.specs.Urgent.{Urgent}
 use Rattle.stack_bound.specs.Settled.{Settled}
@@ -117,15 +118,16 @@ is_stop Took = false
 is_stop (Ran address word) = false
 is_stop (Stopped address why) = true
 
--- Over the first n steps the log follows the program, each once and urgent; step n doesn't stop, writes a listed register where
--- it writes one, and leaves a depth of at most the map's.
+-- Over the first n steps the log follows the program, each once and urgent, and what is set up stands; none stops, each
+-- writes a listed register where it writes one, and the depth is at most the map's.
 pub record Keeps (p : ProgramTree) (m : Map) (log : Log) (n : ℕ) : Type 0 where
   pub follows : Follows p m log n
+  pub setups : SetupsStand p m log n
   pub once : Once m log n
   pub urgent : Urgent p m log n
-  pub goes_on : is_stop (log n).did ≡ false
-  pub listed : IfSome (log n).wrote (λ a. is_listed m a ≡ true)
-  pub depth : (chip_after log n).depth ≤ m.depth
+  pub goes_on : (k : ℕ) → k < n → is_stop (log k).did ≡ false
+  pub listed : (k : ℕ) → k < n → IfSome (log k).wrote (λ a. is_listed m a ≡ true)
+  pub depth : (k : ℕ) → k ≤ n → (chip_after log k).depth ≤ m.depth
 
 -- n steps are at least the map's settle, counted from power-on and from each boundary before with an arrival.
 abbrev pub IsQuietLongEnough : Map → List Sources → ℕ → Type 0

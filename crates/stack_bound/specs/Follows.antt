@@ -79,7 +79,8 @@ abbrev pub BootPutsSetups : ProgramTree → Map → Log → ℕ → Type 0
 BootPutsSetups p m log n = (k : ℕ) → k ≤ n → BeforeReady m log n k → (i : ℕ) × (port_writes log k ≡ take i (setup_puts p))
 
 -- Serial reactions, over the first n steps: the chip comes to its ready boundary in time, windows open and close in turn, and
--- what is committed and put is the serial run of the commits.
+-- what is committed and put is the serial run of the commits. Read with Names and IsMap: each output has a port then, and a
+-- step opens or commits one event at most.
 pub record Follows (p : ProgramTree) (m : Map) (log : Log) (n : ℕ) : Type 0 where
   pub ready : ReadyInTime p m log n
   pub quiet : BootIsQuiet m log n

@@ -5,4 +5,5 @@ pub mod MapNames
 pub mod Once
 pub mod Ready
 pub mod Settled
+pub mod Setups
 pub mod Urgent

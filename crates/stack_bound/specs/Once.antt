@@ -16,6 +16,6 @@ pub record GoesOn (m : Map) (log : Log) (e : MapEvent) (n : ℕ) : Type 0 where
   pub under_way : cleared_count log e n ≡ commit_count m log e n + 1
   pub accounted : latched_count log e n ≡ commit_count m log e n + flag_after log e n + 1
 
--- Each once, over the first n steps: of each event each latch has committed, or waits in the flag, or is under way.
+-- Each once, after the first n steps: of each event each latch has committed, or waits in the flag, or is under way.
 abbrev pub Once : Map → Log → ℕ → Type 0
 Once m log n = AllByRecursion (λ e. Waits m log e n ⊎ GoesOn m log e n) m.events
