@@ -4,7 +4,9 @@ pub mod BrokenOnce
 pub mod BrokenSettled
 pub mod BrokenUrgent
 pub mod BrokenValues
+pub mod Edges
 pub mod GoodFollows
 pub mod GoodLog
 pub mod GoodOnce
 pub mod Stories
+pub mod UrgentEdges
