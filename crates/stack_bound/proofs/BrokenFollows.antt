@@ -1,4 +1,5 @@
--- Logs that don't follow the program: for each clause of `Follows` one at least that breaks it.
+-- Logs that don't follow the program: for the clauses `quiet`, `turns`, `undisturbed` and `closes` of `Follows` one at least
+-- that breaks it.
 use Rattle.std.specs.Prelude.{ℕ, zero, suc, ◌+◌, ◌<◌, ◌≤◌, Bool, true, false, List, [], ◌∷◌, ◌++◌, Option, Some, ◌⊎◌}
 use Rattle.std.proofs.Common.{◌≡◌, refl, sym, ◌∙◌, inl, inr, arith, subst}
 use Rattle.frp_tree.proofs.Programs.{tick}
@@ -11,18 +12,6 @@ use Rattle.stack_bound.specs.Follows.{ReadyInTime, BootIsQuiet, Alternates, NoTa
 use Rattle.stack_bound.proofs.Stories.{chip, ran, put, put_at, took, met, told, counting, counting_map}
 use Rattle.stack_bound.proofs.GoodLog.{boots, starts, is_taken, clears_flag, opens_tick, commits_tick, returns, rests}
 use Rattle.stack_bound.proofs.Booted.{booted, ready_at}
-
--- ready: the chip never comes to its ready address.
-abbrev never_ready : Log
-never_ready = told [] (ran (chip 0 false false 238) (chip 0 false false 238))
-
-never_shows : (n r : ℕ) → ShowsReady counting_map never_ready n r → ⊥
-never_shows n zero (inl s) = let e = s.1 in cc
-never_shows n (suc r) (inl s) = let e = s.1 in cc
-never_shows n r (inr s) = let e = s.1 in cc
-
-pub ready_must_come : ReadyInTime counting counting_map never_ready 63 → ⊥
-ready_must_come it = let one = it (omega arith) in never_shows 63 one.0 one.2.shown
 
 -- quiet: a Tick that came during the boot is cleared, opened and committed before the ready boundary, which is 4.
 abbrev pub early : Log

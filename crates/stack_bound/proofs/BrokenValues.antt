@@ -1,9 +1,9 @@
 -- Logs whose states or port writes aren't those of the serial run: for the clauses `states`, `puts` and `setups` of `Follows`.
-use Rattle.std.specs.Prelude.{ℕ, zero, suc, ◌+◌, ◌<◌, ◌≤◌, Bool, true, false, List, [], ◌∷◌, ◌++◌, take, Option, Some, ◌⊎◌}
+use Rattle.std.specs.Prelude.{codes, ℕ, zero, suc, ◌+◌, ◌<◌, ◌≤◌, Bool, true, false, List, [], ◌∷◌, ◌++◌, take, Option, Some, ◌⊎◌}
 use Rattle.std.specs.List.{flat_map}
 use Rattle.std.proofs.Common.{◌≡◌, refl, sym, ◌∙◌, inl, inr, arith, subst, ap}
 use Rattle.frp_tree.specs.Meaning.{Reaction, react}
-use Rattle.frp_tree.proofs.Programs.{tick}
+use Rattle.frp_tree.proofs.Programs.{tick, setup}
 use Rattle.pic_machine.specs.declared.steps.PortWrite.{PortWrite}
 use Rattle.pic_machine.specs.Boundary.{Step}
 use Rattle.pic_machine.specs.Run.{Log}
@@ -161,3 +161,7 @@ nine (suc i) e = seven_first (numbers (take i [])) (ap numbers e)
 
 pub boot_must_put_the_setups : BootPutsSetups counting counting_map boots_wrongly 1 → ⊥
 boot_must_put_the_setups it = let one = it 1 (omega arith) boots_before in nine one.0 one.1
+
+-- A setup of a register that is no port puts nothing, whatever its byte: no promise over a log sees it.
+pub setup_of_tris_is_not_seen : (byte : ℕ) → setup_puts (record counting { setups = setup (codes "PORTB") 7 ∷ setup (codes "TRISB") byte ∷ [] }) ≡ setup_puts counting
+setup_of_tris_is_not_seen byte = refl

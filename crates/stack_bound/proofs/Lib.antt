@@ -8,5 +8,8 @@ pub mod Edges
 pub mod GoodFollows
 pub mod GoodLog
 pub mod GoodOnce
+pub mod Heard
+pub mod NeverReady
 pub mod Stories
+pub mod TwoEvents
 pub mod UrgentEdges
