@@ -1,4 +1,4 @@
--- Logs that don't follow the program: for the clauses `quiet`, `turns`, `undisturbed` and `closes` of `Follows` one at least
+-- Logs that don't follow the program: for the clauses `turns`, `undisturbed` and `closes` of `Follows` one at least
 -- that breaks it.
 use Rattle.std.specs.Prelude.{ℕ, zero, suc, ◌+◌, ◌<◌, ◌≤◌, Bool, true, false, List, [], ◌∷◌, ◌++◌, Option, Some, ◌⊎◌}
 use Rattle.std.proofs.Common.{◌≡◌, refl, sym, ◌∙◌, inl, inr, arith, subst}
@@ -12,26 +12,6 @@ use Rattle.stack_bound.specs.Follows.{ReadyInTime, BootIsQuiet, Alternates, NoTa
 use Rattle.stack_bound.proofs.Stories.{chip, ran, put, put_at, took, met, told, counting, counting_map}
 use Rattle.stack_bound.proofs.GoodLog.{boots, starts, is_taken, clears_flag, opens_tick, commits_tick, returns, rests}
 use Rattle.stack_bound.proofs.Booted.{booted, ready_at}
-
--- quiet: a Tick that came during the boot is cleared, opened and committed before the ready boundary, which is 4.
-abbrev pub early : Log
-early = told (
-    met (chip 0 false false 238) (chip 0 false true 238) (chip 1 false true 238)
-    ∷ put 7 (chip 1 false true 238) (chip 20 false false 0)
-    ∷ opens_tick
-    ∷ put 1 (chip 21 false false 1) (chip 8 true false 1) ∷ []) rests
-
-early_before : (j : ℕ) → j ≤ 2 → ShowsReady counting_map early 3 j → ⊥
-early_before zero h (inl s) = let e = s.1 in cc
-early_before zero h (inr s) = let e = s.1 in cc
-early_before (suc zero) h (inl s) = let e = s.1 in cc
-early_before (suc zero) h (inr s) = let e = s.1 in cc
-early_before (suc (suc zero)) h (inl s) = let e = s.1 in cc
-early_before (suc (suc zero)) h (inr s) = let e = s.1 in cc
-early_before (suc (suc (suc j))) h s = omega arith
-
-pub no_open_in_the_boot : BootIsQuiet counting_map early 3 → ⊥
-no_open_in_the_boot it = let one = it 2 (omega arith) early_before in let e = one.1 in cc
 
 -- turns: a commit with no open, and two opens with no commit between.
 abbrev commits_alone : Log

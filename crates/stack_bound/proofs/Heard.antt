@@ -1,11 +1,16 @@
 -- What it means that an event is heard: by the examples of two sources, and by what the chip takes.
-use Rattle.std.specs.Prelude.{ℕ, Bool, true, false, ◌&&◌, ◌||◌}
+use Rattle.std.specs.Prelude.{ℕ, zero, suc, Bool, true, false, ◌&&◌, ◌||◌}
 use Rattle.std.proofs.Common.{◌≡◌, refl, arith}
 use Rattle.pic_isa.specs.declared.sources.Source.{Source}
 use Rattle.pic_isa.specs.declared.sources.Source.TheVariants.{T0, Int, Psp, Ad, Ssp, Ccp1, Tmr2, Tmr1, Ee, Bcl, Ccp2}
 use Rattle.pic_regs.specs.Bytes.{Byte, zeros}
 use Rattle.pic_regs.specs.Registers.{Registers, flag, enable, requested}
-use Rattle.pic_machine.specs.Boundary.{Step}
+use Rattle.pic_regs.specs.Arrivals.{Sources}
+use Rattle.pic_machine.specs.Chip.{Chip}
+use Rattle.pic_machine.specs.Boundary.{Step, boundary}
+use Rattle.pic_machine.specs.Run.{log, after}
+use Rattle.map_file.specs.declared.maps.MapEvent.{MapEvent}
+use Rattle.stack_bound.specs.Counts.{takes, chip_after}
 use Rattle.stack_bound.specs.Urgent.{is_in_intcon, is_heard}
 use Rattle.stack_bound.proofs.Stories.{chip_of, ran, tick_event}
 
@@ -61,3 +66,19 @@ requested_by Tmr1 r gie its_enable peie its_flag = rw (gie, peie, its_enable, it
 requested_by Ee r gie its_enable peie its_flag = rw (gie, peie, its_enable, its_flag) (simp or_true)
 requested_by Bcl r gie its_enable peie its_flag = rw (gie, peie, its_enable, its_flag) (simp or_true)
 requested_by Ccp2 r gie its_enable peie its_flag = rw (gie, peie, its_enable, its_flag) (simp or_true)
+
+pub heard_is_requested : (e : MapEvent) (s : Step) → is_heard e s ≡ true → flag e.source s.arrived.regs ≡ true → requested s.arrived.regs ≡ true
+heard_is_requested e s heard its_flag =
+    let outer = both (s.arrived.regs.intcon.b7 && enable e.source s.arrived.regs) (is_in_intcon e.source || s.arrived.regs.intcon.b6) heard in
+    let inner = both s.arrived.regs.intcon.b7 (enable e.source s.arrived.regs) outer.0 in
+    requested_by e.source s.arrived.regs inner.0 inner.1 outer.1 its_flag
+
+-- So a step of the chip at whose boundary an event is heard with its flag set takes an interrupt.
+pub heard_is_taken : (program : ℕ → ℕ) (arrivals : Sources) (c : Chip) (e : MapEvent) → is_heard e (boundary program arrivals c) ≡ true
+    → flag e.source (boundary program arrivals c).arrived.regs ≡ true → takes (boundary program arrivals c) ≡ true
+heard_is_taken program arrivals c e heard its_flag = rw (heard_is_requested e (boundary program arrivals c) heard its_flag) refl
+
+-- In a log of the chip's run the chip after n steps is the run's.
+pub chip_after_is_of_the_run : (program : ℕ → ℕ) (c : Chip) (arrivals : ℕ → Sources) (n : ℕ) → chip_after (log program c arrivals) n ≡ after program c arrivals n
+chip_after_is_of_the_run program c arrivals zero = refl
+chip_after_is_of_the_run program c arrivals (suc n) = refl

@@ -4,6 +4,7 @@ pub mod BrokenOnce
 pub mod BrokenSettled
 pub mod BrokenUrgent
 pub mod BrokenValues
+pub mod Early
 pub mod Edges
 pub mod GoodFollows
 pub mod GoodLog
