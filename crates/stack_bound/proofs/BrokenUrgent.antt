@@ -1,16 +1,12 @@
 -- Logs that aren't urgent: for each clause of `Urgent` one that breaks it.
-use Rattle.std.specs.Prelude.{ℕ, zero, suc, ◌+◌, ◌-◌, ◌<◌, ◌≤◌, Bool, true, false, List, [], ◌∷◌, ◌++◌, ◌⊎◌, replicate, codes}
-use Rattle.std.proofs.Common.{◌≡◌, refl, inl, inr, arith, add-zero, append-nil}
-use Rattle.pic_isa.specs.declared.sources.Source.TheVariants.{T0}
-use Rattle.pic_machine.specs.declared.steps.Did.TheVariants.{Took, Ran, Stopped}
+use Rattle.std.specs.Prelude.{ℕ, zero, suc, ◌-◌, ◌<◌, ◌≤◌, true, false, [], ◌∷◌, ◌++◌, replicate}
+use Rattle.std.proofs.Common.{◌≡◌, refl, arith, add-zero, append-nil}
 use Rattle.pic_machine.specs.Boundary.{Step}
 use Rattle.pic_machine.specs.Run.{Log}
-use Rattle.map_file.specs.declared.maps.MapEvent.{MapEvent}
-use Rattle.map_file.specs.declared.maps.Map.{Map}
-use Rattle.stack_bound.specs.Counts.{count, clears, commits, cleared_count, commit_count, is_under_way, interrupts_on}
-use Rattle.stack_bound.specs.Urgent.{NoOvertaking, InterruptsComeOn, Listens, NoneUrgentUnderWay, WorkIsOpen, is_heard, is_paid}
-use Rattle.stack_bound.proofs.Stories.{chip, chip_of, intcon_of, ran, met, took, told, counting, counting_map, two_events, tick_event}
-use Rattle.stack_bound.proofs.GoodLog.{boots, starts, is_taken, clears_flag}
+use Rattle.stack_bound.specs.Counts.{commits, cleared_count, is_under_way, interrupts_on}
+use Rattle.stack_bound.specs.Urgent.{NoOvertaking, InterruptsComeOn, Listens, WorkIsOpen, is_heard, is_paid}
+use Rattle.stack_bound.proofs.Stories.{chip, chip_of, intcon_of, ran, met, told, counting, counting_map, two_events, tick_event}
+use Rattle.stack_bound.proofs.GoodLog.{is_taken, clears_flag}
 use Rattle.stack_bound.proofs.Booted.{booted, ready_at}
 
 -- no_overtaking: Tick, of priority 2, is latched at boundary 0, and Low, of priority 1, opens at step 16. The other clauses ask
@@ -28,9 +24,10 @@ none_is_overtaken it = let h : 1 ≤ 0 = (it 16 (omega arith)).1.0.0 refl (omega
 -- One step earlier it may: no boundary is 16 steps before step 15.
 pub open_after_15_steps : NoOvertaking two_events (overtakes_after 14) 16
 open_after_15_steps s h =
-    let none : s - 15 ≡ 0 = omega arith in
-    (((λ ran higher. absurd (omega arith)), ((λ ran higher. absurd (omega arith)), tt)),
-    (((λ ran higher. rw none (omega arith)), ((λ ran higher. absurd (omega arith)), tt)), tt))
+    let none : s - 15 ≡ 0 = omega arith in (
+      ((λ ran higher. absurd (omega arith)), ((λ ran higher. absurd (omega arith)), tt)),
+      (((λ ran higher. rw none (omega arith)), ((λ ran higher. absurd (omega arith)), tt)), tt),
+    )
 
 -- interrupts_off: the chip is ready after two steps, and GIE stays off at the 109 boundaries from there. `listening` falls with
 -- it, since no event is under way.

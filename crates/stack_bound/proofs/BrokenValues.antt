@@ -1,17 +1,17 @@
--- Logs whose states or port writes aren't those of the serial run: for the clauses `states`, `puts` and `setups` of `Follows`.
-use Rattle.std.specs.Prelude.{codes, ℕ, zero, suc, ◌+◌, ◌<◌, ◌≤◌, Bool, true, false, List, [], ◌∷◌, ◌++◌, take, Option, Some, ◌⊎◌}
+-- Logs whose states or port writes aren't those of the serial run: for the clauses `states` and `puts` of `Follows`.
+-- The first of each breaks that clause alone: `GoodFollows` has the other clauses for any count and any byte.
+use Rattle.std.specs.Prelude.{codes, ℕ, zero, suc, ◌<◌, true, false, List, [], ◌∷◌, ◌++◌, take, Some}
 use Rattle.std.specs.List.{flat_map}
-use Rattle.std.proofs.Common.{◌≡◌, refl, sym, ◌∙◌, inl, inr, arith, subst, ap}
+use Rattle.std.proofs.Common.{◌≡◌, refl, inl, inr, arith, subst, ap}
 use Rattle.frp_tree.specs.Meaning.{Reaction, react}
 use Rattle.frp_tree.proofs.Programs.{tick, setup}
 use Rattle.pic_machine.specs.declared.steps.PortWrite.{PortWrite}
 use Rattle.pic_machine.specs.Boundary.{Step}
 use Rattle.pic_machine.specs.Run.{Log}
-use Rattle.stack_bound.specs.Counts.{port_writes}
 use Rattle.stack_bound.specs.Ready.{ShowsReady}
-use Rattle.stack_bound.specs.Follows.{StatesAreSerial, PutsAreSerial, PutsAre, BootPutsSetups, setup_puts, reaction_puts}
+use Rattle.stack_bound.specs.Follows.{StatesAreSerial, PutsAreSerial, setup_puts, reaction_puts}
 use Rattle.stack_bound.proofs.Stories.{chip, ran, put, put_at, told, counting, counting_map}
-use Rattle.stack_bound.proofs.GoodLog.{reacting, reaction, rests_with, write_of, boots, starts, is_taken, clears_flag, opens_tick, commits_tick, returns, rests}
+use Rattle.stack_bound.proofs.GoodLog.{reacting, reaction, rests_with, write_of, boots, is_taken, clears_flag, opens_tick, commits_tick, returns, rests}
 use Rattle.stack_bound.proofs.Booted.{booted, ready_at}
 
 -- states: the commit leaves the old count. The other clauses hold of this log, with the count 0.
@@ -133,34 +133,6 @@ pub writes_in_a_window_must_be_a_front : PutsAreSerial counting counting_map (bo
 writes_in_a_window_must_be_a_front it =
     let puts = (it 2 5 (ready_at puts_inside rests 5 (omega arith)) (omega arith) (omega arith)).1 tick refl in
     in_window puts.0 puts.1 puts.2 puts.5.0 puts.3 puts.4 puts.5.1 puts.5.2
-
--- setups: the boot puts 9 where the setup has 7. Over its first step this log breaks no other clause; once the ready boundary is
--- shown, `puts` falls with `setups`.
-abbrev idle : Step
-idle = ran (chip 8 true false 0) (chip 8 true false 0)
-
-abbrev boots_wrongly : Log
-boots_wrongly = told (put 9 (chip 0 false false 238) (chip 1 false false 238) ∷ starts ∷ []) idle
-
-boots_before : (j : ℕ) → j ≤ 1 → ShowsReady counting_map boots_wrongly 1 j → ⊥
-boots_before zero h (inl s) = let e = s.1 in cc
-boots_before zero h (inr s) = let e = s.1 in cc
-boots_before (suc zero) h (inl s) = let e = s.1 in cc
-boots_before (suc zero) h (inr s) = let e = s.1 in cc
-boots_before (suc (suc j)) h s = omega arith
-
-nothing_at_all : Apart (1 ∷ 9 ∷ []) ([])
-nothing_at_all e = cc
-
-seven_first : (more : List ℕ) → Apart (1 ∷ 9 ∷ []) (1 ∷ 7 ∷ more)
-seven_first more e = cc
-
-nine : (i : ℕ) → write_of 1 9 ∷ [] ≡ take i (write_of 1 7 ∷ []) → ⊥
-nine zero e = nothing_at_all (ap numbers e)
-nine (suc i) e = seven_first (numbers (take i [])) (ap numbers e)
-
-pub boot_must_put_the_setups : BootPutsSetups counting counting_map boots_wrongly 1 → ⊥
-boot_must_put_the_setups it = let one = it 1 (omega arith) boots_before in nine one.0 one.1
 
 -- A setup of a register that is no port puts nothing, whatever its byte: no promise over a log sees it.
 pub setup_of_tris_is_not_seen : (byte : ℕ) → setup_puts (record counting { setups = setup (codes "PORTB") 7 ∷ setup (codes "TRISB") byte ∷ [] }) ≡ setup_puts counting

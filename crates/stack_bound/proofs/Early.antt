@@ -1,12 +1,12 @@
 -- A Tick that comes during the boot is cleared, opened and committed before the ready boundary, which is 4. The log breaks the
 -- clause `quiet` of `Follows` alone.
-use Rattle.std.specs.Prelude.{ℕ, zero, suc, ◌+◌, ◌<◌, ◌≤◌, true, false, List, [], ◌∷◌, ◌++◌}
+use Rattle.std.specs.Prelude.{ℕ, zero, suc, ◌<◌, ◌≤◌, true, false, List, [], ◌∷◌, ◌++◌}
 use Rattle.std.proofs.Common.{◌≡◌, refl, sym, ◌∙◌, inl, inr, arith, append-nil}
 use Rattle.frp_tree.proofs.Programs.{tick}
 use Rattle.pic_machine.specs.Run.{Log}
 use Rattle.stack_bound.specs.Counts.{opens, commits, port_writes}
-use Rattle.stack_bound.specs.Ready.{ShowsReady, ReadyAt, BeforeReady}
-use Rattle.stack_bound.specs.Follows.{ReadyInTime, BootIsQuiet, Alternates, NoTakingInside, ClosesInTime, StatesAreSerial, PutsAreSerial, PutsAre, BootPutsSetups, Window}
+use Rattle.stack_bound.specs.Ready.{ShowsReady, ReadyAt}
+use Rattle.stack_bound.specs.Follows.{ReadyInTime, BootIsQuiet, Alternates, NoTakingInside, ClosesInTime, StatesAreSerial, PutsAreSerial, BootPutsSetups, Window}
 use Rattle.stack_bound.proofs.Stories.{chip, put, met, told, counting, counting_map}
 use Rattle.stack_bound.proofs.GoodLog.{opens_tick, rests, write_of}
 

@@ -1,6 +1,6 @@
 -- The bounds on the ready boundary and on a window, each at its edge: what comes at the last step that is allowed is kept, and one step later broken.
 -- Boot is 60 and Off is 108 for the program of one counter.
-use Rattle.std.specs.Prelude.{ℕ, zero, suc, ◌+◌, ◌<◌, ◌≤◌, Bool, true, false, List, [], ◌∷◌, ◌++◌, ◌⊎◌, replicate}
+use Rattle.std.specs.Prelude.{ℕ, zero, suc, ◌<◌, ◌≤◌, Bool, true, false, List, [], ◌∷◌, ◌++◌, replicate}
 use Rattle.std.proofs.Common.{◌≡◌, refl, ap, ◌∙◌, sym, inl, inr, arith}
 use Rattle.frp_tree.proofs.Programs.{tick}
 use Rattle.pic_machine.specs.Boundary.{Step}

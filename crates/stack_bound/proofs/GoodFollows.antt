@@ -1,12 +1,11 @@
 -- The good log follows its program, over its first n steps for every n. A wrong count is seen by `states` alone, and a wrong byte
 -- on the port by `puts` alone: the other clauses hold with any count v and any byte b.
-use Rattle.std.specs.Prelude.{ℕ, zero, suc, ◌<◌, ◌≤◌, List, [], ◌∷◌, ◌++◌}
+use Rattle.std.specs.Prelude.{ℕ, zero, suc, ◌≤◌, List, [], ◌∷◌, ◌++◌}
 use Rattle.std.proofs.Common.{◌≡◌, refl, sym, ◌∙◌, inl, inr, arith}
 use Rattle.frp_tree.proofs.Programs.{tick}
-use Rattle.stack_bound.specs.Ready.{ShowsReady, ReadyAt, BeforeReady}
+use Rattle.stack_bound.specs.Ready.{ReadyAt, BeforeReady}
 use Rattle.stack_bound.specs.Follows.{Follows, ReadyInTime, BootIsQuiet, Alternates, NoTakingInside, ClosesInTime, StatesAreSerial, PutsAreSerial, PutsAre, BootPutsSetups, Window}
 use Rattle.stack_bound.proofs.Stories.{counting, counting_map}
-use Rattle.pic_machine.specs.Boundary.{Step}
 use Rattle.stack_bound.proofs.Booted.{ready_at, ready_from}
 use Rattle.stack_bound.proofs.GoodLog.{reaction, reacting, rests_with, good, past, opens_past, commits_past, writes_past}
 

@@ -1,5 +1,5 @@
 -- The log that never comes to its ready boundary breaks the clause `ready` of `Follows` alone.
-use Rattle.std.specs.Prelude.{ℕ, zero, suc, ◌+◌, ◌<◌, ◌≤◌, false, List, [], ◌∷◌, ◌++◌}
+use Rattle.std.specs.Prelude.{ℕ, zero, suc, false, []}
 use Rattle.std.proofs.Common.{◌≡◌, refl, sym, ◌∙◌, inl, inr, arith, append-nil}
 use Rattle.pic_machine.specs.Run.{Log}
 use Rattle.stack_bound.specs.Counts.{opens, commits, port_writes}

@@ -1,20 +1,15 @@
 -- Logs of two events, Tick and Low: what one does doesn't count for the other.
-use Rattle.std.specs.Prelude.{ℕ, zero, suc, ◌+◌, Bool, true, false, List, [], ◌∷◌, ◌++◌, None, ◌⊎◌}
-use Rattle.std.proofs.Common.{◌≡◌, refl, inl, inr, arith}
+use Rattle.std.specs.Prelude.{ℕ, Bool, true, false, [], ◌∷◌, ◌++◌, None}
+use Rattle.std.proofs.Common.{◌≡◌, inl, inr, arith}
 use Rattle.frp_tree.proofs.Programs.{tick, low}
-use Rattle.pic_isa.specs.declared.sources.Source.{Source}
-use Rattle.pic_isa.specs.declared.sources.Source.TheVariants.{T0, Int, Psp, Ad, Ssp, Ccp1, Tmr2, Tmr1, Ee, Bcl, Ccp2}
-use Rattle.pic_regs.specs.Bytes.{Byte, zeros}
-use Rattle.pic_regs.specs.Registers.{Registers, flag, enable}
+use Rattle.pic_regs.specs.Bytes.{zeros}
 use Rattle.pic_regs.specs.Arrivals.{set_of}
-use Rattle.pic_machine.specs.declared.steps.Did.TheVariants.{Took, Ran, Stopped}
+use Rattle.pic_machine.specs.declared.steps.Did.TheVariants.{Took}
 use Rattle.pic_machine.specs.Chip.{Chip}
-use Rattle.pic_machine.specs.Boundary.{Step}
 use Rattle.pic_machine.specs.Run.{Log}
 use Rattle.stack_bound.specs.Follows.{Alternates}
 use Rattle.stack_bound.specs.Once.{Once}
-use Rattle.stack_bound.specs.Urgent.{is_in_intcon, is_heard}
-use Rattle.stack_bound.proofs.Stories.{chip, chip_of, ran, step, told, tick_event, two_events}
+use Rattle.stack_bound.proofs.Stories.{chip, chip_of, ran, step, told, two_events}
 use Rattle.stack_bound.proofs.GoodLog.{rests}
 use Rattle.stack_bound.proofs.Booted.{booted}
 

@@ -1,12 +1,12 @@
 -- The bounds of `Urgent`, each at its edge: what comes at the last step that is allowed is kept, and one step later broken.
 -- Off is 108 for the program of one counter.
-use Rattle.std.specs.Prelude.{ℕ, zero, suc, ◌+◌, ◌<◌, ◌≤◌, Bool, true, false, List, [], ◌∷◌, ◌++◌, ◌⊎◌, replicate}
-use Rattle.std.proofs.Common.{◌≡◌, refl, ap, ◌∙◌, sym, inl, inr, arith}
+use Rattle.std.specs.Prelude.{ℕ, zero, suc, ◌+◌, ◌<◌, ◌≤◌, Bool, true, false, List, [], ◌∷◌, ◌++◌, replicate}
+use Rattle.std.proofs.Common.{◌≡◌, refl, ap, ◌∙◌, sym, arith}
 use Rattle.pic_machine.specs.Boundary.{Step}
 use Rattle.pic_machine.specs.Run.{Log}
-use Rattle.stack_bound.specs.Counts.{interrupts_on, is_under_way}
-use Rattle.stack_bound.specs.Urgent.{InterruptsComeOn, Listens, NoneUrgentUnderWay, WorkIsOpen, AtOne, is_due, is_heard, is_paid}
-use Rattle.stack_bound.proofs.Stories.{chip, ran, told, counting, counting_map, tick_event}
+use Rattle.stack_bound.specs.Counts.{interrupts_on}
+use Rattle.stack_bound.specs.Urgent.{InterruptsComeOn, Listens, NoneUrgentUnderWay, WorkIsOpen, AtOne, is_due, is_paid}
+use Rattle.stack_bound.proofs.Stories.{chip, ran, told, counting, counting_map}
 use Rattle.stack_bound.proofs.GoodLog.{is_taken, clears_flag, rests}
 use Rattle.stack_bound.proofs.Booted.{booted, ready_at, ready_from}
 use Rattle.stack_bound.proofs.Edges.{told_first, opening, working, committing}
