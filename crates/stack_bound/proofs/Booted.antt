@@ -1,6 +1,6 @@
 -- Logs that begin with the boot of the good log: after its two steps they are at their ready boundary.
 use Rattle.std.specs.Prelude.{ℕ, zero, suc, ◌<◌, ◌≤◌, List, ◌∷◌}
-use Rattle.std.proofs.Common.{◌≡◌, refl, inl, inr, arith}
+use Rattle.std.proofs.Common.{refl, inl, inr, arith}
 use Rattle.pic_machine.specs.Boundary.{Step}
 use Rattle.pic_machine.specs.Run.{Log}
 use Rattle.stack_bound.specs.Ready.{ShowsReady, ReadyAt}

@@ -1,10 +1,10 @@
 -- Logs in which a latch is lost, or reacts without need: `Once` doesn't hold.
-use Rattle.std.specs.Prelude.{ℕ, zero, suc, ◌+◌, Bool, true, false, List, [], ◌∷◌, ◌⊎◌}
-use Rattle.std.proofs.Common.{◌≡◌, refl, inl, inr}
+use Rattle.std.specs.Prelude.{ℕ, true, false, [], ◌∷◌}
+use Rattle.std.proofs.Common.{inl, inr}
 use Rattle.stack_bound.specs.Once.{Once, Waits, GoesOn}
 use Rattle.pic_machine.specs.Run.{Log}
-use Rattle.stack_bound.proofs.Stories.{chip, ran, put, took, met, told, counting_map, tick_event}
-use Rattle.stack_bound.proofs.GoodLog.{is_taken, clears_flag, opens_tick, commits_tick, returns, rests}
+use Rattle.stack_bound.proofs.Stories.{chip, ran, put, met, counting_map, tick_event}
+use Rattle.stack_bound.proofs.GoodLog.{is_taken, clears_flag, opens_tick, commits_tick, rests}
 use Rattle.stack_bound.proofs.Booted.{booted}
 
 -- An event that neither waits nor goes on.

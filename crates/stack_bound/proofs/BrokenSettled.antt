@@ -1,13 +1,12 @@
 -- Logs that haven't settled: for each clause of `Settled` one that breaks it alone.
-use Rattle.std.specs.Prelude.{ℕ, zero, suc, Bool, true, false, List, [], ◌∷◌}
+use Rattle.std.specs.Prelude.{true, false, [], ◌∷◌}
 use Rattle.std.proofs.Common.{◌≡◌, refl}
-use Rattle.std.specs.List.{AllByRecursion}
 use Rattle.pic_regs.specs.Registers.{flag}
 use Rattle.pic_machine.specs.Run.{Log}
 use Rattle.stack_bound.specs.Counts.{chip_after, latched_count, commit_count}
 use Rattle.stack_bound.specs.Settled.{Settled}
-use Rattle.stack_bound.proofs.Stories.{chip, ran, put, took, met, told, counting, counting_map, tick_event}
-use Rattle.stack_bound.proofs.GoodLog.{good, is_taken, clears_flag, opens_tick, commits_tick, returns, rests}
+use Rattle.stack_bound.proofs.Stories.{chip, ran, put, counting_map, tick_event}
+use Rattle.stack_bound.proofs.GoodLog.{good, is_taken, clears_flag, opens_tick, commits_tick, rests}
 use Rattle.stack_bound.proofs.Booted.{booted}
 
 -- clear: after a reaction the flag stands again, and nothing was latched.

@@ -1,25 +1,16 @@
 -- Logs that aren't urgent: for each clause of `Urgent` one that breaks it.
-use Rattle.std.specs.Prelude.{ℕ, zero, suc, ◌+◌, ◌-◌, ◌<◌, ◌≤◌, Bool, true, false, List, [], ◌∷◌, ◌++◌, ◌⊎◌, replicate, codes}
-use Rattle.std.proofs.Common.{◌≡◌, refl, inl, inr, arith, add-zero, append-nil}
-use Rattle.frp_tree.proofs.Programs.{low}
-use Rattle.pic_isa.specs.declared.sources.Source.TheVariants.{T0}
-use Rattle.pic_machine.specs.declared.steps.Did.TheVariants.{Took, Ran, Stopped}
+use Rattle.std.specs.Prelude.{ℕ, zero, suc, ◌-◌, ◌<◌, ◌≤◌, true, false, [], ◌∷◌, ◌++◌, replicate}
+use Rattle.std.proofs.Common.{◌≡◌, refl, arith, add-zero, append-nil}
 use Rattle.pic_machine.specs.Boundary.{Step}
 use Rattle.pic_machine.specs.Run.{Log}
-use Rattle.map_file.specs.declared.maps.MapEvent.{MapEvent}
-use Rattle.map_file.specs.declared.maps.Map.{Map}
-use Rattle.stack_bound.specs.Counts.{count, clears, commits, cleared_count, commit_count, is_under_way, interrupts_on}
-use Rattle.stack_bound.specs.Urgent.{NoOvertaking, InterruptsComeOn, Listens, NoneUrgentUnderWay, WorkIsOpen, is_heard, is_paid}
-use Rattle.stack_bound.proofs.Stories.{chip, chip_of, intcon_of, ran, met, took, told, counting, counting_map, tick_event}
-use Rattle.stack_bound.proofs.GoodLog.{boots, starts, is_taken, clears_flag}
+use Rattle.stack_bound.specs.Counts.{commits, cleared_count, is_under_way, interrupts_on}
+use Rattle.stack_bound.specs.Urgent.{NoOvertaking, InterruptsComeOn, Listens, WorkIsOpen, is_heard, is_paid}
+use Rattle.stack_bound.proofs.Stories.{chip, chip_of, intcon_of, ran, met, told, counting, counting_map, two_events, tick_event}
+use Rattle.stack_bound.proofs.GoodLog.{is_taken, clears_flag}
 use Rattle.stack_bound.proofs.Booted.{booted, ready_at}
 
--- no_overtaking: Tick, of priority 2, is latched at boundary 0, and Low, of priority 1, opens at step 16.
-abbrev two_events : Map
-two_events = record counting_map {
-  events = record tick_event { priority = 2 } ∷ record { name = low; source = T0; priority = 1; «open» = 30; commit = 31 } ∷ [];
-}
-
+-- no_overtaking: Tick, of priority 2, is latched at boundary 0, and Low, of priority 1, opens at step 16. The other clauses ask
+-- nothing of this log, which is never ready and has GIE off.
 abbrev waiting : Step
 waiting = ran (chip 25 false true 0) (chip 25 false true 0)
 
@@ -33,11 +24,13 @@ none_is_overtaken it = let h : 1 ≤ 0 = (it 16 (omega arith)).1.0.0 refl (omega
 -- One step earlier it may: no boundary is 16 steps before step 15.
 pub open_after_15_steps : NoOvertaking two_events (overtakes_after 14) 16
 open_after_15_steps s h =
-    let none : s - 15 ≡ 0 = omega arith in
-    (((λ ran higher. absurd (omega arith)), ((λ ran higher. absurd (omega arith)), tt)),
-    (((λ ran higher. rw none (omega arith)), ((λ ran higher. absurd (omega arith)), tt)), tt))
+    let none : s - 15 ≡ 0 = omega arith in (
+      ((λ ran higher. absurd (omega arith)), ((λ ran higher. absurd (omega arith)), tt)),
+      (((λ ran higher. rw none (omega arith)), ((λ ran higher. absurd (omega arith)), tt)), tt),
+    )
 
--- interrupts_off: the chip is ready after two steps, and GIE stays off at the 109 boundaries from there.
+-- interrupts_off: the chip is ready after two steps, and GIE stays off at the 109 boundaries from there. `listening` falls with
+-- it, since no event is under way.
 abbrev deaf_rest : Step
 deaf_rest = ran (chip 8 false false 0) (chip 8 false false 0)
 
@@ -52,7 +45,7 @@ interrupts_must_come_on it = let one = it 2 (2, ready_at [] deaf_rest 111 (omega
     at (suc zero) h e = omega arith
     at (suc (suc k)) h e = cc
 
--- listening: GIE is on, but Tick's enable stays off, and Tick isn't under way.
+-- listening alone: GIE is on, but Tick's enable stays off, and Tick isn't under way.
 abbrev ignoring : Step
 ignoring = ran (chip_of 8 (intcon_of true false false) 0) (chip_of 8 (intcon_of true false false) 0)
 
@@ -83,7 +76,8 @@ event_must_be_heard it =
     at (suc zero) h e = omega arith
     at (suc (suc k)) h e = cc
 
--- open_work: step 2 turns GIE off, and step 3 of the other log clears a flag. Nothing follows in 16 steps.
+-- open_work: step 2 turns GIE off, and step 3 of the other log clears a flag. Nothing follows in 16 steps. So few steps make no
+-- stretch, and the other clauses ask nothing.
 abbrev busy : Step
 busy = ran (chip 25 false false 0) (chip 25 false false 0)
 

@@ -1,42 +1,33 @@
--- Logs whose states or port writes aren't those of the serial run: for the clauses `states`, `puts` and `setups` of `Follows`.
-use Rattle.std.specs.Prelude.{ℕ, zero, suc, ◌+◌, ◌<◌, ◌≤◌, Bool, true, false, List, [], ◌∷◌, ◌++◌, take, Option, Some, ◌⊎◌}
+-- Logs whose states or port writes aren't those of the serial run: for the clauses `states` and `puts` of `Follows`.
+-- The first of each breaks that clause alone: `GoodFollows` has the other clauses for any count and any byte.
+use Rattle.std.specs.Prelude.{codes, ℕ, zero, suc, ◌<◌, true, false, List, [], ◌∷◌, ◌++◌, take, Some}
 use Rattle.std.specs.List.{flat_map}
-use Rattle.std.proofs.Common.{◌≡◌, refl, sym, ◌∙◌, inl, inr, arith, subst, ap}
+use Rattle.std.proofs.Common.{◌≡◌, refl, inl, inr, arith, subst, ap}
 use Rattle.frp_tree.specs.Meaning.{Reaction, react}
-use Rattle.frp_tree.proofs.Programs.{tick}
+use Rattle.frp_tree.proofs.Programs.{tick, setup}
 use Rattle.pic_machine.specs.declared.steps.PortWrite.{PortWrite}
 use Rattle.pic_machine.specs.Boundary.{Step}
 use Rattle.pic_machine.specs.Run.{Log}
-use Rattle.stack_bound.specs.Counts.{port_writes}
 use Rattle.stack_bound.specs.Ready.{ShowsReady}
-use Rattle.stack_bound.specs.Follows.{StatesAreSerial, PutsAreSerial, PutsAre, BootPutsSetups, setup_puts, reaction_puts}
+use Rattle.stack_bound.specs.Follows.{StatesAreSerial, PutsAreSerial, setup_puts, reaction_puts}
 use Rattle.stack_bound.proofs.Stories.{chip, ran, put, put_at, told, counting, counting_map}
-use Rattle.stack_bound.proofs.GoodLog.{boots, starts, is_taken, clears_flag, opens_tick, commits_tick, returns, rests}
+use Rattle.stack_bound.proofs.GoodLog.{reacting, reaction, rests_with, write_of, boots, is_taken, clears_flag, opens_tick, commits_tick, returns, rests}
 use Rattle.stack_bound.proofs.Booted.{booted, ready_at}
 
--- states: the commit leaves the old count.
-abbrev after_forgetting : List Step
-after_forgetting =
-    is_taken ∷ clears_flag
-    ∷ ran (chip 20 false false 0) (chip 21 false false 0)
-    ∷ put 1 (chip 21 false false 0) (chip 22 false false 0)
-    ∷ ran (chip 22 false false 0) (chip 8 true false 0) ∷ []
+-- states: the commit leaves the old count. The other clauses hold of this log, with the count 0.
+pub commit_must_store : StatesAreSerial counting counting_map (reacting 0 1) 6 → ⊥
+commit_must_store it = let e = it 2 6 (ready_at (reaction 0 1) (rests_with 0) 6 (omega arith)) (omega arith) (omega arith) refl in cc
 
-abbrev idle : Step
-idle = ran (chip 8 true false 0) (chip 8 true false 0)
+-- The reaction as it is in the good log, but for its commit.
+abbrev with_commit : Step → List Step
+with_commit commit = is_taken ∷ clears_flag ∷ opens_tick ∷ commit ∷ returns ∷ []
 
-pub commit_must_store : StatesAreSerial counting counting_map (booted after_forgetting idle) 6 → ⊥
-commit_must_store it = let e = it 2 6 (ready_at after_forgetting idle 6 (omega arith)) (omega arith) (omega arith) refl in cc
-
--- The reaction as it is in the good log, and then the count changes outside a window.
-abbrev reacting : Step → List Step
-reacting commit = is_taken ∷ clears_flag ∷ opens_tick ∷ commit ∷ returns ∷ []
-
+-- After a good reaction the count changes, outside a window.
 abbrev changes : Step
 changes = ran (chip 8 true false 1) (chip 8 true false 2)
 
-pub states_must_stay : StatesAreSerial counting counting_map (booted (reacting commits_tick) changes) 8 → ⊥
-states_must_stay it = let e = it 2 8 (ready_at (reacting commits_tick) changes 8 (omega arith)) (omega arith) (omega arith) refl in cc
+pub states_must_stay : StatesAreSerial counting counting_map (booted (with_commit commits_tick) changes) 8 → ⊥
+states_must_stay it = let e = it 2 8 (ready_at (with_commit commits_tick) changes 8 (omega arith)) (omega arith) (omega arith) refl in cc
 
 -- The boot leaves another state than the initial one.
 abbrev wrong_start : Log
@@ -53,9 +44,6 @@ pub boot_must_set_states : StatesAreSerial counting counting_map wrong_start 2 �
 boot_must_set_states it = let e = it 2 2 (record { shown = inl (omega arith, refl); least = wrong_start_before }) (omega arith) (omega arith) refl in cc
 
 -- puts: after one commit and in no window the port was given 7 and then 1.
-abbrev write_of : ℕ → ℕ → PortWrite
-write_of its_port its_byte = record { port = its_port; byte = its_byte }
-
 -- The ports and bytes of writes, one after the other.
 abbrev numbers : List PortWrite → List ℕ
 numbers [] = []
@@ -70,7 +58,7 @@ one_commit writes values e it =
     let same : values ≡ (1 ∷ []) ∷ [] = cc in
     ap numbers (subst (λ (v : List (List ℕ)). writes ≡ setup_puts counting ++ (flat_map (reaction_puts counting) v ++ [])) same it)
 
--- Another byte, another port, no write, and the write twice.
+-- Another byte, of which the other clauses hold too, another port, no write, and the write twice.
 another_byte : Apart (1 ∷ 7 ∷ 1 ∷ 9 ∷ []) (1 ∷ 7 ∷ 1 ∷ 1 ∷ [])
 another_byte e = cc
 
@@ -83,16 +71,13 @@ no_write e = cc
 two_writes : Apart (1 ∷ 7 ∷ 1 ∷ 1 ∷ 1 ∷ 1 ∷ []) (1 ∷ 7 ∷ 1 ∷ 1 ∷ [])
 two_writes e = cc
 
-abbrev puts_nine : List Step
-puts_nine = reacting (put 9 (chip 21 false false 1) (chip 22 false false 1))
-
-pub byte_must_be_right : PutsAreSerial counting counting_map (booted puts_nine rests) 6 → ⊥
+pub byte_must_be_right : PutsAreSerial counting counting_map (reacting 1 9) 6 → ⊥
 byte_must_be_right it =
-    let puts = (it 2 6 (ready_at puts_nine rests 6 (omega arith)) (omega arith) (omega arith)).0 refl in
+    let puts = (it 2 6 (ready_at (reaction 1 9) rests 6 (omega arith)) (omega arith) (omega arith)).0 refl in
     another_byte (one_commit (write_of 1 7 ∷ write_of 1 9 ∷ []) puts.0 puts.1 puts.2)
 
 abbrev puts_on_c : List Step
-puts_on_c = reacting (put_at 2 1 (chip 21 false false 1) (chip 22 false false 1))
+puts_on_c = with_commit (put_at 2 1 (chip 21 false false 1) (chip 22 false false 1))
 
 pub port_must_be_right : PutsAreSerial counting counting_map (booted puts_on_c rests) 6 → ⊥
 port_must_be_right it =
@@ -100,7 +85,7 @@ port_must_be_right it =
     another_port (one_commit (write_of 1 7 ∷ write_of 2 1 ∷ []) puts.0 puts.1 puts.2)
 
 abbrev puts_nothing : List Step
-puts_nothing = reacting (ran (chip 21 false false 1) (chip 22 false false 1))
+puts_nothing = with_commit (ran (chip 21 false false 1) (chip 22 false false 1))
 
 pub write_must_come : PutsAreSerial counting counting_map (booted puts_nothing rests) 6 → ⊥
 write_must_come it =
@@ -110,9 +95,9 @@ write_must_come it =
 abbrev puts_again : Step
 puts_again = put 1 (chip 8 true false 1) (chip 8 true false 1)
 
-pub write_must_come_once : PutsAreSerial counting counting_map (booted (reacting commits_tick) puts_again) 8 → ⊥
+pub write_must_come_once : PutsAreSerial counting counting_map (booted (with_commit commits_tick) puts_again) 8 → ⊥
 write_must_come_once it =
-    let puts = (it 2 8 (ready_at (reacting commits_tick) puts_again 8 (omega arith)) (omega arith) (omega arith)).0 refl in
+    let puts = (it 2 8 (ready_at (with_commit commits_tick) puts_again 8 (omega arith)) (omega arith) (omega arith)).0 refl in
     two_writes (one_commit (write_of 1 7 ∷ write_of 1 1 ∷ write_of 1 1 ∷ []) puts.0 puts.1 puts.2)
 
 -- In a window: the open itself puts 9, and what was put after 5 steps is no front of 7 and 1.
@@ -149,26 +134,6 @@ writes_in_a_window_must_be_a_front it =
     let puts = (it 2 5 (ready_at puts_inside rests 5 (omega arith)) (omega arith) (omega arith)).1 tick refl in
     in_window puts.0 puts.1 puts.2 puts.5.0 puts.3 puts.4 puts.5.1 puts.5.2
 
--- setups: the boot puts 9 where the setup has 7.
-abbrev boots_wrongly : Log
-boots_wrongly = told (put 9 (chip 0 false false 238) (chip 1 false false 238) ∷ starts ∷ []) idle
-
-boots_before : (j : ℕ) → j ≤ 1 → ShowsReady counting_map boots_wrongly 1 j → ⊥
-boots_before zero h (inl s) = let e = s.1 in cc
-boots_before zero h (inr s) = let e = s.1 in cc
-boots_before (suc zero) h (inl s) = let e = s.1 in cc
-boots_before (suc zero) h (inr s) = let e = s.1 in cc
-boots_before (suc (suc j)) h s = omega arith
-
-nothing_at_all : Apart (1 ∷ 9 ∷ []) ([])
-nothing_at_all e = cc
-
-seven_first : (more : List ℕ) → Apart (1 ∷ 9 ∷ []) (1 ∷ 7 ∷ more)
-seven_first more e = cc
-
-nine : (i : ℕ) → write_of 1 9 ∷ [] ≡ take i (write_of 1 7 ∷ []) → ⊥
-nine zero e = nothing_at_all (ap numbers e)
-nine (suc i) e = seven_first (numbers (take i [])) (ap numbers e)
-
-pub boot_must_put_the_setups : BootPutsSetups counting counting_map boots_wrongly 1 → ⊥
-boot_must_put_the_setups it = let one = it 1 (omega arith) boots_before in nine one.0 one.1
+-- A setup of a register that is no port puts nothing, whatever its byte: no promise over a log sees it.
+pub setup_of_tris_is_not_seen : (byte : ℕ) → setup_puts (record counting { setups = setup (codes "PORTB") 7 ∷ setup (codes "TRISB") byte ∷ [] }) ≡ setup_puts counting
+setup_of_tris_is_not_seen byte = refl

@@ -9,7 +9,7 @@ use Rattle.pic_machine.specs.Run.{Log}
 use Rattle.stack_bound.specs.Counts.{count, opens, commits, port_writes}
 use Rattle.stack_bound.proofs.Stories.{chip, ran, put, took, told, counting_map}
 
--- The setups' write, the end of the boot, the taking, the clearing of the flag, the open, the commit, and the return.
+-- The setups' write, the end of the boot, the taking, and the clearing of the flag.
 abbrev pub boots : Step
 boots = put 7 (chip 0 false false 238) (chip 1 false false 238)
 
@@ -22,40 +22,61 @@ is_taken = took (chip 8 true false 0) (chip 8 true true 0) (chip 4 false true 0)
 abbrev pub clears_flag : Step
 clears_flag = ran (chip 4 false true 0) (chip 20 false false 0)
 
+-- The open leaves a count, and the commit puts a byte.
+abbrev pub opens_with : ℕ → Step
+opens_with count = ran (chip 20 false false 0) (chip 21 false false count)
+
+abbrev pub commits_with : ℕ → ℕ → Step
+commits_with count its_byte = put its_byte (chip 21 false false count) (chip 22 false false count)
+
+abbrev pub returns_with : ℕ → Step
+returns_with count = ran (chip 22 false false count) (chip 8 true false count)
+
+abbrev pub rests_with : ℕ → Step
+rests_with count = ran (chip 8 true false count) (chip 8 true false count)
+
+-- The log of one reaction, with any count and any byte.
+abbrev pub reaction : ℕ → ℕ → List Step
+reaction count its_byte = is_taken ∷ clears_flag ∷ opens_with count ∷ commits_with count its_byte ∷ returns_with count ∷ []
+
+abbrev pub reacting : ℕ → ℕ → Log
+reacting count its_byte = told (boots ∷ starts ∷ reaction count its_byte) (rests_with count)
+
+-- With the right ones: count 1, and 1 on the port.
 abbrev pub opens_tick : Step
-opens_tick = ran (chip 20 false false 0) (chip 21 false false 1)
+opens_tick = opens_with 1
 
 abbrev pub commits_tick : Step
-commits_tick = put 1 (chip 21 false false 1) (chip 22 false false 1)
+commits_tick = commits_with 1 1
 
 abbrev pub returns : Step
-returns = ran (chip 22 false false 1) (chip 8 true false 1)
+returns = returns_with 1
 
 abbrev pub rests : Step
-rests = ran (chip 8 true false 1) (chip 8 true false 1)
+rests = rests_with 1
 
 abbrev pub good : Log
-good = told (boots ∷ starts ∷ is_taken ∷ clears_flag ∷ opens_tick ∷ commits_tick ∷ returns ∷ []) rests
+good = reacting 1 1
 
 -- k steps past the seventh.
 abbrev pub past : ℕ → ℕ
 past k = suc (suc (suc (suc (suc (suc (suc k))))))
 
-pub count_past : (test : Step → Bool) → test rests ≡ false → (k : ℕ) → count good test (past k) ≡ count good test 7
-count_past test is_not zero = refl
-count_past test is_not (suc k) = rw (is_not, add-zero) (count_past test is_not k)
+pub count_past : (v b : ℕ) (test : Step → Bool) → test (rests_with v) ≡ false → (k : ℕ) → count (reacting v b) test (past k) ≡ count (reacting v b) test 7
+count_past v b test is_not zero = refl
+count_past v b test is_not (suc k) = rw (is_not, add-zero) (count_past v b test is_not k)
 
-pub opens_past : (k : ℕ) → opens counting_map good (past k) ≡ tick ∷ []
-opens_past zero = refl
-opens_past (suc k) = rw append-nil (opens_past k)
+pub opens_past : (v b k : ℕ) → opens counting_map (reacting v b) (past k) ≡ tick ∷ []
+opens_past v b zero = refl
+opens_past v b (suc k) = rw append-nil (opens_past v b k)
 
-pub commits_past : (k : ℕ) → commits counting_map good (past k) ≡ tick ∷ []
-commits_past zero = refl
-commits_past (suc k) = rw append-nil (commits_past k)
+pub commits_past : (v b k : ℕ) → commits counting_map (reacting v b) (past k) ≡ tick ∷ []
+commits_past v b zero = refl
+commits_past v b (suc k) = rw append-nil (commits_past v b k)
 
-abbrev pub all_writes : List PortWrite
-all_writes = record { port = 1; byte = 7 } ∷ record { port = 1; byte = 1 } ∷ []
+abbrev pub write_of : ℕ → ℕ → PortWrite
+write_of its_port its_byte = record { port = its_port; byte = its_byte }
 
-pub writes_past : (k : ℕ) → port_writes good (past k) ≡ all_writes
-writes_past zero = refl
-writes_past (suc k) = rw append-nil (writes_past k)
+pub writes_past : (v b k : ℕ) → port_writes (reacting v b) (past k) ≡ write_of 1 7 ∷ write_of 1 b ∷ []
+writes_past v b zero = refl
+writes_past v b (suc k) = rw append-nil (writes_past v b k)

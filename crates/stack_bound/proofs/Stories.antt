@@ -3,8 +3,8 @@ use Rattle.std.specs.Prelude.{ℕ, zero, suc, Bool, true, List, [], ◌∷◌, c
 use Rattle.frp_tree.specs.declared.syntax.Ty.TheVariants.{U8}
 use Rattle.frp_tree.specs.declared.syntax.Lit.TheVariants as lit
 use Rattle.frp_tree.specs.Tree.{ProgramTree, Name}
-use Rattle.frp_tree.proofs.Programs.{setup, event, reactive, clause, output, one_more, tick}
-use Rattle.pic_isa.specs.declared.sources.Source.TheVariants.{Int}
+use Rattle.frp_tree.proofs.Programs.{setup, event, reactive, clause, output, one_more, tick, low}
+use Rattle.pic_isa.specs.declared.sources.Source.TheVariants.{T0, Int}
 use Rattle.pic_regs.specs.Bytes.{Byte, zeros, bits}
 use Rattle.pic_regs.specs.Registers.{Registers}
 use Rattle.pic_regs.specs.Arrivals.{Sources, no_source, set_of}
@@ -101,3 +101,10 @@ counting_map = record {
   words = 23;
   settle = 100;
 }
+
+-- A map of two events: Tick, of priority 2, and Low on T0, of priority 1, which opens at 30 and commits at 31.
+abbrev pub low_event : MapEvent
+low_event = record { name = low; source = T0; priority = 1; «open» = 30; commit = 31 }
+
+abbrev pub two_events : Map
+two_events = record counting_map { events = record tick_event { priority = 2 } ∷ low_event ∷ [] }
