@@ -134,6 +134,6 @@ writes_in_a_window_must_be_a_front it =
     let puts = (it 2 5 (ready_at puts_inside rests 5 (omega arith)) (omega arith) (omega arith)).1 tick refl in
     in_window puts.0 puts.1 puts.2 puts.5.0 puts.3 puts.4 puts.5.1 puts.5.2
 
--- A setup of a register that is no port puts nothing, whatever its byte: no promise over a log sees it.
-pub setup_of_tris_is_not_seen : (byte : ℕ) → setup_puts (record counting { setups = setup (codes "PORTB") 7 ∷ setup (codes "TRISB") byte ∷ [] }) ≡ setup_puts counting
-setup_of_tris_is_not_seen byte = refl
+-- A setup of a register that is no port puts nothing, whatever its byte: what stands there is asked apart, in SetupsStand.
+pub setup_of_tris_puts_nothing : (byte : ℕ) → setup_puts (record counting { setups = setup (codes "PORTB") 7 ∷ setup (codes "TRISB") byte ∷ [] }) ≡ setup_puts counting
+setup_of_tris_puts_nothing byte = refl

@@ -1,4 +1,4 @@
-use Rattle.std.specs.Prelude.{◌≡◌, ◌≢◌, ℕ, ◌+◌, ◌<◌, ◌≤◌, false, List, [], ◌∷◌, ◌++◌, take, map, Option, Some, None, ◌⊎◌}
+use Rattle.std.specs.Prelude.{◌≡◌, ℕ, ◌+◌, ◌<◌, ◌≤◌, false, List, [], ◌∷◌, ◌++◌, take, Option, Some, None, ◌⊎◌}
 use Rattle.std.specs.List.{flat_map, zip}
 use Rattle.frp_tree.specs.declared.syntax.Setup.{Setup}
 use Rattle.frp_tree.specs.Tree.{ProgramTree}
@@ -10,7 +10,7 @@ use Rattle.pic_machine.specs.Run.{Log}
 use Rattle.map_file.specs.declared.maps.Map.{Map}
 use Rattle.stack_bound.specs.Counts.{chip_after, takes, opened_by, committed_by, opens, commits, port_writes}
 use Rattle.stack_bound.specs.MapNames.{states_in}
-use Rattle.stack_bound.specs.Ready.{ShowsReady, ReadyAt, BeforeReady}
+use Rattle.stack_bound.specs.Ready.{ReadyAt, BeforeReady}
 
 -- A byte that is put on a port, where there is one.
 abbrev pub put_on : Option ℕ → ℕ → List PortWrite
@@ -71,8 +71,8 @@ abbrev pub PutsAreSerial : ProgramTree → Map → Log → ℕ → Type 0
 PutsAreSerial p m log n = (r k : ℕ) → ReadyAt m log n r → r ≤ k → k ≤ n →
     (NoWindow m log k → PutsAre p m log k [])
     × ((e : List ℕ) → Window m log k e →
-        (state : List ℕ) × (reaction : Reaction) × (i : ℕ)
-        × (state_after p (commits m log k) ≡ Some state) × (react p state e ≡ Some reaction) × PutsAre p m log k (take i (reaction_puts p reaction.ports)))
+    (state : List ℕ) × (reaction : Reaction) × (i : ℕ)
+    × (state_after p (commits m log k) ≡ Some state) × (react p state e ≡ Some reaction) × PutsAre p m log k (take i (reaction_puts p reaction.ports)))
 
 -- Before it, a front of the setups' writes was put.
 abbrev pub BootPutsSetups : ProgramTree → Map → Log → ℕ → Type 0

@@ -1,7 +1,6 @@
-use Rattle.std.specs.Prelude.{◌≡◌, ℕ, ◌+◌, ◌*◌, ◌≤◌, Bool, false, ◌&&◌, ◌||◌, nat_le, List, [], ◌∷◌, map}
+use Rattle.std.specs.Prelude.{ℕ, ◌+◌, ◌*◌, Bool, false, ◌&&◌, ◌||◌, nat_le, List, [], ◌∷◌, map}
 use Rattle.frp_tree.specs.declared.syntax.Ty.{Ty}
 use Rattle.frp_tree.specs.declared.syntax.Ty.TheVariants as ty
-use Rattle.map_file.specs.declared.maps.MapState.{MapState}
 use Rattle.map_file.specs.declared.maps.Range.{Range}
 use Rattle.map_file.specs.declared.maps.Map.{Map}
 use Rattle.pic_regs.specs.Bytes.{num}

@@ -1,4 +1,4 @@
-use Rattle.std.specs.Prelude.{◌≡◌, ℕ, ◌+◌, ◌-◌, ◌<◌, ◌≤◌, Bool, true, false, ◌&&◌, not, ◌||◌, List, ◌∷◌, [], ◌⊎◌}
+use Rattle.std.specs.Prelude.{◌≡◌, ℕ, ◌+◌, ◌-◌, ◌<◌, ◌≤◌, Bool, true, false, ◌&&◌, not, ◌||◌, List, ◌∷◌, []}
 use Rattle.std.specs.List.{AllByRecursion}
 use Rattle.pic_isa.specs.declared.sources.Source.{Source}
 use Rattle.pic_isa.specs.declared.sources.Source.TheVariants.{T0, Int, Psp, Ad, Ssp, Ccp1, Tmr2, Tmr1, Ee, Bcl, Ccp2}
@@ -9,7 +9,7 @@ use Rattle.frp_tree.specs.Tree.{ProgramTree}
 use Rattle.frp_tree.specs.Bounds.{off}
 use Rattle.map_file.specs.declared.maps.MapEvent.{MapEvent}
 use Rattle.map_file.specs.declared.maps.Map.{Map}
-use Rattle.stack_bound.specs.Counts.{takes, ran_at, clears, interrupts_on, latched_count, commit_count, is_under_way, opened_by}
+use Rattle.stack_bound.specs.Counts.{takes, ran_at, clears, interrupts_on, latched_count, commit_count, is_under_way}
 use Rattle.stack_bound.specs.Ready.{ReadyAt}
 
 -- No overtaking: where an event opened at step s, each event of a higher priority had committed, before step s, at least as
