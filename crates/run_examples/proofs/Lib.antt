@@ -1,0 +1,4 @@
+pub mod Counting
+pub mod Merged
+pub mod Sources
+pub mod Ticks
