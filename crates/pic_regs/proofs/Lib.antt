@@ -1,4 +1,5 @@
 pub mod ArrivalFacts
+pub mod BitFacts
 pub mod ByteFacts
 pub mod MapExamples
 pub mod RegisterExamples

@@ -5,6 +5,7 @@
 //! only what the chip starts from. The chip's model stands on this crate.
 #![tactic(auto)]
 
+pub mod bytes;
 mod starts;
 
 pub use starts::Start;
