@@ -6,6 +6,10 @@
 #![tactic(auto)]
 
 pub mod bytes;
+mod map;
+mod places;
 mod starts;
 
+pub use map::{canonical, lowest_address, place_at, place_in};
+pub use places::Place;
 pub use starts::Start;
