@@ -4,3 +4,4 @@ pub mod Map
 pub mod Places
 pub mod Registers
 pub mod Start
+pub mod State

@@ -7,9 +7,12 @@
 
 pub mod bytes;
 mod map;
+mod masks;
 mod places;
 mod starts;
+mod state;
 
 pub use map::{canonical, lowest_address, place_at, place_in};
 pub use places::Place;
 pub use starts::Start;
+pub use state::Regs;
