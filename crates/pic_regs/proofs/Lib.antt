@@ -2,4 +2,5 @@ pub mod ArrivalFacts
 pub mod BitFacts
 pub mod ByteFacts
 pub mod MapExamples
+pub mod MemoryFacts
 pub mod RegisterExamples

@@ -5,6 +5,7 @@
 //! only what the chip starts from. The chip's model stands on this crate.
 #![tactic(auto)]
 
+mod access;
 pub mod bytes;
 mod map;
 mod masks;

@@ -3,6 +3,7 @@ ghost use Rattle.pic_regs.specs.Bytes.{Byte, bits, chosen, zeros};
 ghost use Rattle.pic_regs.specs.Map.{existing, over, over_port, over_tris, port_bits, tris_bits};
 ghost use Rattle.pic_regs.specs.Places.{IsPlace, reg_of};
 
+use crate::bytes::select;
 use crate::places::Place;
 
 // The bits of a port that exist, as ones.
@@ -60,4 +61,20 @@ pub(crate) fn written_mask(place: Place) -> u8
         Place::Tris(n) => tris_mask(n),
         _ => 0xFF,
     }
+}
+
+// What a register that holds this byte shows: 0 at each bit that does not exist.
+pub(crate) fn existing_byte(place: Place, held: u8) -> u8
+    requires { IsPlace place }
+    ensures { bits result ≡ existing (reg_of place) (bits held) }
+{
+    select(existing_mask(place), 0x00, held)
+}
+
+// What a register holds once a byte is written over its old one.
+pub(crate) fn written_byte(place: Place, old: u8, byte: u8) -> u8
+    requires { IsPlace place }
+    ensures { bits result ≡ over (reg_of place) (bits old) (bits byte) }
+{
+    select(written_mask(place), old, byte)
 }
