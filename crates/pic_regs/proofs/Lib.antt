@@ -3,4 +3,5 @@ pub mod BitFacts
 pub mod ByteFacts
 pub mod MapExamples
 pub mod MemoryFacts
+pub mod PowerFacts
 pub mod RegisterExamples

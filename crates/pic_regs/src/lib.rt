@@ -7,12 +7,17 @@
 
 mod access;
 pub mod bytes;
+mod flags;
+mod latches;
 mod map;
 mod masks;
+mod named;
 mod places;
+mod power;
 mod starts;
 mod state;
 
+pub use latches::Latch;
 pub use map::{canonical, lowest_address, place_at, place_in};
 pub use places::Place;
 pub use starts::Start;
