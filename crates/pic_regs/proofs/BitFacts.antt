@@ -61,7 +61,7 @@ by_bits op n x y h =
       ∙ sym (bit-bit_by_bit op i (bits x) (bits y)))
 
 -- What the operations do to bits that are 0 or 1.
-and_one : (a b : ℕ) → a < 2 → b < 2 → (min a b == 1) ≡ ((a == 1) && (b == 1))
+pub and_one : (a b : ℕ) → a < 2 → b < 2 → (min a b == 1) ≡ ((a == 1) && (b == 1))
 and_one zero zero p q = refl
 and_one zero (suc zero) p q = refl
 and_one (suc zero) zero p q = refl
@@ -85,7 +85,7 @@ xor_one (suc zero) (suc zero) p q = refl
 xor_one (suc (suc a)) b p q = absurd (omega (arith, p))
 xor_one a (suc (suc b)) p q = absurd (omega (arith, q))
 
-not_one : (a : ℕ) → a < 2 → ((1 - a) == 1) ≡ not (a == 1)
+pub not_one : (a : ℕ) → a < 2 → ((1 - a) == 1) ≡ not (a == 1)
 not_one zero p = refl
 not_one (suc zero) p = refl
 not_one (suc (suc a)) p = absurd (omega (arith, p))

@@ -5,3 +5,4 @@ pub mod MapExamples
 pub mod MemoryFacts
 pub mod PowerFacts
 pub mod RegisterExamples
+pub mod SetFacts

@@ -1,12 +1,12 @@
 -- Arrays that are filled byte by byte, as memories.
-use Rattle.std.proofs.Common.{◌≡◌, ℕ, zero, suc, ◌⊎◌, inl, inr, [], ◌∷◌, ◌+◌, ◌-◌, ◌<◌, ◌≤◌, Bool, true, false, List, length, get_or, set, ◌==◌, nat_le, if◌then◌else◌, Option, Some, None, refl, sym, ap, ◌∙◌, arith, get_or-set_same, get_or-set_other}
+use Rattle.std.proofs.Common.{◌≡◌, ℕ, ◌⊎◌, inl, inr, ◌+◌, ◌-◌, ◌<◌, ◌≤◌, Bool, true, false, List, length, get_or, set, ◌==◌, nat_le, if◌then◌else◌, Option, Some, None, refl, sym, ap, ◌∙◌, arith, get_or-set_same, get_or-set_other}
 use Rattle.std.proofs.Math.Path.{fun_ext}
 use Rattle.std.proofs.lemmas.Bool.{cases_lt, eqb-true, eqb-false}
 use Rattle.std.proofs.lemmas.List.{get_or_past}
 use Rattle.pic_regs.specs.declared.starts.Start.{Start}
 use Rattle.pic_regs.specs.Bytes.{Byte, bits, zeros}
 use Rattle.pic_regs.specs.Map.{within}
-use Rattle.pic_regs.specs.Start.{plain_start, ram_place, special_start, tris_start}
+use Rattle.pic_regs.specs.Start.{plain_start, ram_place, special_start}
 use Rattle.pic_regs.specs.State.{memory_of}
 
 -- One more byte is written.
@@ -33,26 +33,3 @@ filled f xs size long below past = fun_ext (λ k. at_each k (cases_lt k size))
     at_each : (k : ℕ) → (k < size) ⊎ (size ≤ k) → bits (get_or xs k 0) ≡ f k
     at_each k (inl small) = below k small
     at_each k (inr large) = ap bits (get_or_past xs k 0 (omega (arith, long, large))) ∙ sym (past k large)
-
--- The latches and the pins at power-on, and TRIS.
-pub cleared_ports : memory_of 0x00 (0x00 ∷ 0x00 ∷ 0x00 ∷ 0x00 ∷ 0x00 ∷ []) ≡ (λ port. zeros)
-cleared_ports = fun_ext at_each
-  where
-    at_each : (k : ℕ) → memory_of 0x00 (0x00 ∷ 0x00 ∷ 0x00 ∷ 0x00 ∷ 0x00 ∷ []) k ≡ zeros
-    at_each zero = refl
-    at_each (suc zero) = refl
-    at_each (suc (suc zero)) = refl
-    at_each (suc (suc (suc zero))) = refl
-    at_each (suc (suc (suc (suc zero)))) = refl
-    at_each (suc (suc (suc (suc (suc k))))) = refl
-
-pub inputs : memory_of 0xFF (0x3F ∷ 0xFF ∷ 0xFF ∷ 0xFF ∷ 0x07 ∷ []) ≡ tris_start
-inputs = fun_ext at_each
-  where
-    at_each : (k : ℕ) → memory_of 0xFF (0x3F ∷ 0xFF ∷ 0xFF ∷ 0xFF ∷ 0x07 ∷ []) k ≡ tris_start k
-    at_each zero = refl
-    at_each (suc zero) = refl
-    at_each (suc (suc zero)) = refl
-    at_each (suc (suc (suc zero))) = refl
-    at_each (suc (suc (suc (suc zero)))) = refl
-    at_each (suc (suc (suc (suc (suc k))))) = refl

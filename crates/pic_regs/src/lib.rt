@@ -6,6 +6,7 @@
 #![tactic(auto)]
 
 mod access;
+mod arriving;
 pub mod bytes;
 mod flags;
 mod latches;
@@ -17,6 +18,7 @@ mod power;
 mod starts;
 mod state;
 
+pub use arriving::Arrived;
 pub use latches::Latch;
 pub use map::{canonical, lowest_address, place_at, place_in};
 pub use places::Place;
