@@ -55,10 +55,10 @@ bit-chosen (suc (suc (suc (suc (suc (suc (suc i))))))) c x y = refl
 by_bits : (op : Bool → Bool → Bool) (n x y : ℕ) → ((i : ℕ) → i < 8 → (bit_at n i == 1) ≡ op (bit_at x i == 1) (bit_at y i == 1)) → bits n ≡ bit_by_bit op (bits x) (bits y)
 by_bits op n x y h =
     from_bits n (bit_by_bit op (bits x) (bits y)) (λ i below.
-      h i below
-      ∙ sym (ap (λ b. op b (bit_at y i == 1)) (bit-bits i x below))
-      ∙ sym (ap (λ b. op (bit i (bits x)) b) (bit-bits i y below))
-      ∙ sym (bit-bit_by_bit op i (bits x) (bits y)))
+    h i below
+    ∙ sym (ap (λ b. op b (bit_at y i == 1)) (bit-bits i x below))
+    ∙ sym (ap (λ b. op (bit i (bits x)) b) (bit-bits i y below))
+    ∙ sym (bit-bit_by_bit op i (bits x) (bits y)))
 
 -- What the operations do to bits that are 0 or 1.
 pub and_one : (a b : ℕ) → a < 2 → b < 2 → (min a b == 1) ≡ ((a == 1) && (b == 1))
@@ -118,17 +118,17 @@ bits-not x small = by_bits (λ p q. not p) (bit_not w8 x) x x (λ i below. ap (�
 pub bits-pick : (c x y : ℕ) → c < 256 → bits (bit_or (bit_and x (bit_not w8 c)) (bit_and y c)) ≡ chosen (bits c) (bits x) (bits y)
 bits-pick c x y small =
     from_bits (bit_or (bit_and x (bit_not w8 c)) (bit_and y c)) (chosen (bits c) (bits x) (bits y)) (λ i below.
-      let its_bit : bit_at (bit_or (bit_and x (bit_not w8 c)) (bit_and y c)) i ≡ max (min (bit_at x i) (1 - bit_at c i)) (min (bit_at y i) (bit_at c i)) =
-        bit_at_or (bit_and x (bit_not w8 c)) (bit_and y c) i
-        ∙ ap (λ n. max n (bit_at (bit_and y c) i)) (bit_at_and x (bit_not w8 c) i ∙ ap (λ n. min (bit_at x i) n) (bit_at_not w8 c i small below))
-        ∙ ap (λ n. max (min (bit_at x i) (1 - bit_at c i)) n) (bit_at_and y c i)
-      in
-      ap (λ n. n == 1) its_bit
-      ∙ pick_one (bit_at c i) (bit_at x i) (bit_at y i) (bit_at-lt c i) (bit_at-lt x i) (bit_at-lt y i)
-      ∙ sym (ap (λ b. if b then bit_at y i == 1 else bit_at x i == 1) (bit-bits i c below))
-      ∙ sym (ap (λ b. if bit i (bits c) then b else bit_at x i == 1) (bit-bits i y below))
-      ∙ sym (ap (λ b. if bit i (bits c) then bit i (bits y) else b) (bit-bits i x below))
-      ∙ sym (bit-chosen i (bits c) (bits x) (bits y)))
+    let its_bit : bit_at (bit_or (bit_and x (bit_not w8 c)) (bit_and y c)) i ≡ max (min (bit_at x i) (1 - bit_at c i)) (min (bit_at y i) (bit_at c i)) =
+    bit_at_or (bit_and x (bit_not w8 c)) (bit_and y c) i
+    ∙ ap (λ n. max n (bit_at (bit_and y c) i)) (bit_at_and x (bit_not w8 c) i ∙ ap (λ n. min (bit_at x i) n) (bit_at_not w8 c i small below))
+    ∙ ap (λ n. max (min (bit_at x i) (1 - bit_at c i)) n) (bit_at_and y c i)
+    in
+    ap (λ n. n == 1) its_bit
+    ∙ pick_one (bit_at c i) (bit_at x i) (bit_at y i) (bit_at-lt c i) (bit_at-lt x i) (bit_at-lt y i)
+    ∙ sym (ap (λ b. if b then bit_at y i == 1 else bit_at x i == 1) (bit-bits i c below))
+    ∙ sym (ap (λ b. if bit i (bits c) then b else bit_at x i == 1) (bit-bits i y below))
+    ∙ sym (ap (λ b. if bit i (bits c) then bit i (bits y) else b) (bit-bits i x below))
+    ∙ sym (bit-chosen i (bits c) (bits x) (bits y)))
 
 pub bits-swapped : (x : ℕ) → x < 256 → bits (x % 16 * 16 + x / 16) ≡ swapped (bits x)
 bits-swapped x small =

@@ -93,5 +93,5 @@ others n set small =
     let rest : ℕ = bit_not w16 (number_of set) in
     sym (number_of-set_of (bit_and n rest) (let h = and_le_l n rest in omega (arith, h, small)))
     ∙ ap number_of (fun_ext (λ source.
-      set_of-and n rest source
-      ∙ ap (λ b. set_of n source && b) (set_of-not (number_of set) source (number_of-small set) ∙ ap (λ b. not b) (set_of-number_of set source))))
+    set_of-and n rest source
+    ∙ ap (λ b. set_of n source && b) (set_of-not (number_of set) source (number_of-small set) ∙ ap (λ b. not b) (set_of-number_of set source))))

@@ -25,17 +25,15 @@ fn flags_in_intcon(set: u16) -> u8
 
 // Those in PIR1.
 fn flags_in_pir1(set: u16) -> u8
-    ensures {
-        bits result
+    ensures { bits result
         ≡ record zeros {
-            b7 = set_of set Source.Psp;
-            b6 = set_of set Source.Ad;
-            b3 = set_of set Source.Ssp;
-            b2 = set_of set Source.Ccp1;
-            b1 = set_of set Source.Tmr2;
-            b0 = set_of set Source.Tmr1
-        }
-    }
+          b7 = set_of set Source.Psp;
+          b6 = set_of set Source.Ad;
+          b3 = set_of set Source.Ssp;
+          b2 = set_of set Source.Ccp1;
+          b1 = set_of set Source.Tmr2;
+          b0 = set_of set Source.Tmr1;
+        } }
 {
     let upper = set / 4 % 2 * 128 + set / 8 % 2 * 64;
     let lower = set / 16 % 2 * 8 + set / 32 % 2 * 4 + set / 64 % 2 * 2 + set / 128 % 2;
@@ -44,12 +42,12 @@ fn flags_in_pir1(set: u16) -> u8
 
 // Those in PIR2.
 fn flags_in_pir2(set: u16) -> u8
-    ensures {
-        bits result
+    ensures { bits result
         ≡ record zeros {
-            b4 = set_of set Source.Ee; b3 = set_of set Source.Bcl; b0 = set_of set Source.Ccp2
-        }
-    }
+          b4 = set_of set Source.Ee;
+          b3 = set_of set Source.Bcl;
+          b0 = set_of set Source.Ccp2;
+        } }
 {
     (set / 256 % 2 * 16 + set / 512 % 2 * 8 + set / 1024 % 2) as u8
 }

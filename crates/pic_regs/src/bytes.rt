@@ -57,7 +57,11 @@ pub fn set_bit(byte: u8, number: u8, value: bool) -> u8
     ensures { bits result ≡ with_bit number value (bits byte) }
 {
     let choice = 1 << number;
-    if value { select(choice, byte, 0xFF) } else { select(choice, byte, 0x00) }
+    if value {
+        select(choice, byte, 0xFF)
+    } else {
+        select(choice, byte, 0x00)
+    }
 }
 
 /// The byte is 00h.

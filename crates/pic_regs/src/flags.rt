@@ -56,7 +56,11 @@ impl Regs {
     {
         let was_set = self.flag(source);
         self.raise(source);
-        if was_set { Latch::Merged } else { Latch::Latched }
+        if was_set {
+            Latch::Merged
+        } else {
+            Latch::Latched
+        }
     }
 
     /// An interrupt is requested: GIE is set, and an enable and its flag in INTCON, or else PEIE and some
@@ -72,6 +76,7 @@ impl Regs {
                 || bit_is_set(intcon, 4) && bit_is_set(intcon, 1)
                 || bit_is_set(intcon, 3) && bit_is_set(intcon, 0)
                 || bit_is_set(intcon, 6)
-                    && (have_a_bit_in_common(self.pie1, pir1) || have_a_bit_in_common(self.pie2, pir2)))
+                    && (have_a_bit_in_common(self.pie1, pir1)
+                        || have_a_bit_in_common(self.pie2, pir2)))
     }
 }

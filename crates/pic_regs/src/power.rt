@@ -36,7 +36,11 @@ fn plain_byte(start: &Start, address: u16) -> u8
 fn special_byte(address: u16) -> u8
     ensures { bits result ≡ special_start address }
 {
-    if address == 0x081 || address == 0x092 { 0xFF } else { 0x00 }
+    if address == 0x081 || address == 0x092 {
+        0xFF
+    } else {
+        0x00
+    }
 }
 
 // All plain bytes at power-on.
