@@ -1,5 +1,9 @@
 pub mod ArrivalFacts
+pub mod BitFacts
 pub mod ByteFacts
 pub mod MapExamples
+pub mod MemoryFacts
+pub mod PowerFacts
 pub mod RamFacts
 pub mod RegisterExamples
+pub mod SetFacts

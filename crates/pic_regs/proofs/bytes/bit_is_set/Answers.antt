@@ -1,0 +1,5 @@
+use Rattle.pic_regs.proofs.BitFacts.{bit-shifted}
+use Rattle.pic_regs.proofs.bytes.bit_is_set.Goals as goal
+
+pub returns : goal.returns
+returns c = bit-shifted c.args.number c.args.byte c.requires

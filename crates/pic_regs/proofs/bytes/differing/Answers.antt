@@ -1,0 +1,5 @@
+use Rattle.pic_regs.proofs.BitFacts.{bits-xor}
+use Rattle.pic_regs.proofs.bytes.differing.Goals as goal
+
+pub returns : goal.returns
+returns c = bits-xor c.args.x c.args.y

@@ -1,0 +1,80 @@
+ghost use Rattle.std.specs.Prelude.{◌≡◌, ◌<◌};
+ghost use Rattle.pic_regs.specs.Bytes.{Byte, bits, chosen, zeros};
+ghost use Rattle.pic_regs.specs.Map.{existing, over, over_port, over_tris, port_bits, tris_bits};
+ghost use Rattle.pic_regs.specs.Places.{IsPlace, reg_of};
+
+use crate::bytes::select;
+use crate::places::Place;
+
+// The bits of a port that exist, as ones.
+fn port_mask(port: u8) -> u8
+    requires { port < 5 }
+    ensures exist { (x : Byte) → chosen (bits result) zeros x ≡ port_bits port x }
+    ensures written { (old x : Byte) → chosen (bits result) old x ≡ over_port port old x }
+{
+    match port {
+        0 => 0x3F,
+        4 => 0x07,
+        _ => 0xFF,
+    }
+}
+
+// Those of its TRIS.
+fn tris_mask(port: u8) -> u8
+    requires { port < 5 }
+    ensures exist { (x : Byte) → chosen (bits result) zeros x ≡ tris_bits port x }
+    ensures written { (old x : Byte) → chosen (bits result) old x ≡ over_tris port old x }
+{
+    match port {
+        0 => 0x3F,
+        4 => 0xF7,
+        _ => 0xFF,
+    }
+}
+
+// The bits of a register that exist, as ones.
+pub(crate) fn existing_mask(place: Place) -> u8
+    requires { IsPlace place }
+    ensures { (x : Byte) → chosen (bits result) zeros x ≡ existing (reg_of place) x }
+{
+    match place {
+        Place::Pclath => 0x1F,
+        Place::Pir1 => 0xCF,
+        Place::Pir2 => 0x19,
+        Place::Port(n) => port_mask(n),
+        Place::Tris(n) => tris_mask(n),
+        _ => 0xFF,
+    }
+}
+
+// The bits of a register that a write changes, as ones.
+pub(crate) fn written_mask(place: Place) -> u8
+    requires { IsPlace place }
+    ensures { (old x : Byte) → chosen (bits result) old x ≡ over (reg_of place) old x }
+{
+    match place {
+        Place::Status => 0xE7,
+        Place::Pclath => 0x1F,
+        Place::Pir1 => 0xCF,
+        Place::Pir2 => 0x19,
+        Place::Port(n) => port_mask(n),
+        Place::Tris(n) => tris_mask(n),
+        _ => 0xFF,
+    }
+}
+
+// What a register that holds this byte shows: 0 at each bit that does not exist.
+pub(crate) fn existing_byte(place: Place, held: u8) -> u8
+    requires { IsPlace place }
+    ensures { bits result ≡ existing (reg_of place) (bits held) }
+{
+    select(existing_mask(place), 0x00, held)
+}
+
+// What a register holds once a byte is written over its old one.
+pub(crate) fn written_byte(place: Place, old: u8, byte: u8) -> u8
+    requires { IsPlace place }
+    ensures { bits result ≡ over (reg_of place) (bits old) (bits byte) }
+{
+    select(written_mask(place), old, byte)
+}
