@@ -1,4 +1,5 @@
 pub mod Counting
 pub mod Merged
+pub mod Promises
 pub mod Sources
 pub mod Ticks
