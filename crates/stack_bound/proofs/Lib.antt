@@ -7,4 +7,7 @@ pub mod BrokenValues
 pub mod GoodFollows
 pub mod GoodLog
 pub mod GoodOnce
+pub mod ListsSides
+pub mod QuietSides
+pub mod ReportsSides
 pub mod Stories
