@@ -10,4 +10,5 @@ pub mod GoodOnce
 pub mod ListsSides
 pub mod QuietSides
 pub mod ReportsSides
+pub mod SetupsSides
 pub mod Stories
