@@ -12,8 +12,12 @@ pub mod GoodFollows
 pub mod GoodLog
 pub mod GoodOnce
 pub mod Heard
+pub mod ListsSides
 pub mod NeverCommits
 pub mod NeverReady
+pub mod QuietSides
+pub mod ReportsSides
+pub mod SetupsSides
 pub mod Stories
 pub mod TwoEvents
 pub mod UrgentEdges
