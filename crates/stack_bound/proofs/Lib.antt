@@ -7,7 +7,9 @@ pub mod BrokenValues
 pub mod GoodFollows
 pub mod GoodLog
 pub mod GoodOnce
+pub mod KeepsSides
 pub mod ListsSides
+pub mod NamesSides
 pub mod QuietSides
 pub mod ReportsSides
 pub mod SetupsSides
