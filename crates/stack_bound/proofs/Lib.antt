@@ -12,7 +12,9 @@ pub mod GoodFollows
 pub mod GoodLog
 pub mod GoodOnce
 pub mod Heard
+pub mod KeepsSides
 pub mod ListsSides
+pub mod NamesSides
 pub mod NeverCommits
 pub mod NeverReady
 pub mod QuietSides

@@ -28,6 +28,16 @@ later_counts = refl
 other_stays : last_setup (setup (codes "TRISB") 1 ∷ setup (codes "TRISC") 2 ∷ setup (codes "TRISB") 3 ∷ []) 0x087 ≡ Some 2
 other_stays = refl
 
+-- Of FFh a register holds the bits that exist: TRISA six, TRISE all but bit 3, and TRISB all.
+held_in_trisa : num (existing (reg_at 0x085) (bits 0xFF)) ≡ 0x3F
+held_in_trisa = refl
+
+held_in_trise : num (existing (reg_at 0x089) (bits 0xFF)) ≡ 0xF7
+held_in_trise = refl
+
+held_in_trisb : num (existing (reg_at 0x086) (bits 0xFF)) ≡ 0xFF
+held_in_trisb = refl
+
 -- The good log keeps 0 in TRISB for good.
 zero_at : (k : ℕ) → byte_at (chip_after good k) 0x086 ≡ 0
 zero_at zero = refl
@@ -40,7 +50,7 @@ zero_at (suc (suc (suc (suc (suc (suc zero)))))) = refl
 zero_at (suc (suc (suc (suc (suc (suc (suc zero))))))) = refl
 zero_at (suc (suc (suc (suc (suc (suc (suc (suc k)))))))) = refl
 
--- By whether an address is PORTB's or TRISB's: at PORTB's a port is asked for, and at another there is no setup.
+-- Setups stand there at each moment: no other register than TRISB is asked for, as PORTB is a port.
 abbrev Stands : (k a byte : ℕ) → Type 0
 Stands k a byte = byte_at (chip_after good k) a ≡ num (existing (reg_at a) (bits byte))
 
