@@ -1,5 +1,6 @@
 pub mod Counting
 pub mod Merged
 pub mod Promises
+pub mod Serial
 pub mod Sources
 pub mod Ticks
