@@ -35,7 +35,7 @@ not_before (suc (suc (suc (suc (suc (suc (suc (suc (suc k))))))))) h s = omega a
 ready_at : ReadyAt counter_map two_ticks 26 9
 ready_at = record { shown = inl (omega arith, refl); least = not_before }
 
-ready_from : (r : ℕ) → ReadyAt counter_map two_ticks 26 r → r < 9 → ⊥
+pub ready_from : (r : ℕ) → ReadyAt counter_map two_ticks 26 r → r < 9 → ⊥
 ready_from r is_it h = not_before r h is_it.shown
 
 -- Where one more has opened than committed, a window stands open.
@@ -45,16 +45,16 @@ one_more_opened opened committed xs o c same = let e = sym o ∙ (same ∙ c) in
 second_opened : (opened committed : List (List ℕ)) → opened ≡ tick ∷ tick ∷ [] → committed ≡ tick ∷ [] → opened ≡ committed → ⊥
 second_opened opened committed o c same = let e = sym o ∙ (same ∙ c) in cc
 
-open_after_16 : NoWindow counter_map two_ticks 16 → ⊥
+pub open_after_16 : NoWindow counter_map two_ticks 16 → ⊥
 open_after_16 = one_more_opened (opens counter_map two_ticks 16) (commits counter_map two_ticks 16) [] refl refl
 
-open_after_24 : NoWindow counter_map two_ticks 24 → ⊥
+pub open_after_24 : NoWindow counter_map two_ticks 24 → ⊥
 open_after_24 = second_opened (opens counter_map two_ticks 24) (commits counter_map two_ticks 24) refl refl
 
-too_early : (k : ℕ) → 9 ≤ k → k < 9 → ⊥
+pub too_early : (k : ℕ) → 9 ≤ k → k < 9 → ⊥
 too_early k from before = omega arith
 
-too_late : (k : ℕ) → suc (suc (suc (suc (suc (suc (suc (suc (suc (suc (suc (suc (suc (suc (suc (suc (suc (suc (suc (suc (suc (suc (suc (suc (suc (suc (suc k)))))))))))))))))))))))))) ≤ 26 → ⊥
+pub too_late : (k : ℕ) → suc (suc (suc (suc (suc (suc (suc (suc (suc (suc (suc (suc (suc (suc (suc (suc (suc (suc (suc (suc (suc (suc (suc (suc (suc (suc (suc k)))))))))))))))))))))))))) ≤ 26 → ⊥
 too_late k to = omega arith
 
 -- From the ready boundary on, where no window stands open, the state is that of the serial run of the commits.
@@ -89,7 +89,7 @@ state_at (suc (suc (suc (suc (suc (suc (suc (suc (suc (suc (suc (suc (suc (suc (
 state_at (suc (suc (suc (suc (suc (suc (suc (suc (suc (suc (suc (suc (suc (suc (suc (suc (suc (suc (suc (suc (suc (suc (suc (suc (suc (suc zero)))))))))))))))))))))))))) from to none = refl
 state_at (suc (suc (suc (suc (suc (suc (suc (suc (suc (suc (suc (suc (suc (suc (suc (suc (suc (suc (suc (suc (suc (suc (suc (suc (suc (suc (suc k))))))))))))))))))))))))))) from to none = absurd (too_late k to)
 
-from_ready : (r k : ℕ) → (r < 9 → ⊥) → r ≤ k → 9 ≤ k
+pub from_ready : (r k : ℕ) → (r < 9 → ⊥) → r ≤ k → 9 ≤ k
 from_ready r k late h = omega arith
 
 states_are_serial : StatesAreSerial program counter_map two_ticks 26
