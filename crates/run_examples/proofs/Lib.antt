@@ -1,5 +1,7 @@
 pub mod Counting
 pub mod Merged
 pub mod Promises
+pub mod Puts
+pub mod Serial
 pub mod Sources
 pub mod Ticks
