@@ -1,5 +1,6 @@
 pub mod Counting
 pub mod Merged
+pub mod Moments
 pub mod Promises
 pub mod Puts
 pub mod Serial

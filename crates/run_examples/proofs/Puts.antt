@@ -1,11 +1,12 @@
 -- The port writes of the two ticks, at each moment of their 26 steps, by the serial run.
-use Rattle.std.specs.Prelude.{ℕ, zero, suc, ◌≤◌, List, [], ◌∷◌, ◌++◌, take, Some}
+use Rattle.std.specs.Prelude.{ℕ, List, [], ◌∷◌, ◌++◌, take, Some}
 use Rattle.std.proofs.Common.{◌≡◌, refl, sym, ◌∙◌, ap, arith}
 use Rattle.frp_tree.specs.Meaning.{Reaction, react, state_after}
 use Rattle.stack_bound.specs.Counts.{opens, commits}
 use Rattle.stack_bound.specs.Follows.{PutsAreSerial, PutsAre, NoWindow, Window, reaction_puts}
+use Rattle.run_examples.proofs.Moments.{AllFrom, each}
 use Rattle.run_examples.proofs.Counting.{tick, program, counter_map, two_ticks}
-use Rattle.run_examples.proofs.Serial.{open_after_16, open_after_24, ready_from, too_early, too_late, from_ready}
+use Rattle.run_examples.proofs.Serial.{open_after_16, open_after_24, ready_from, from_ready}
 
 -- The port values of none, of one and of both reactions.
 abbrev one_value : List (List ℕ)
@@ -15,35 +16,11 @@ abbrev both_values : List (List ℕ)
 both_values = (1 ∷ []) ∷ (2 ∷ []) ∷ []
 
 -- Where no window stands open, the setup puts nothing, and each reaction its count.
-puts_at : (k : ℕ) → 9 ≤ k → k ≤ 26 → NoWindow counter_map two_ticks k → PutsAre program counter_map two_ticks k []
-puts_at zero from to none = absurd (too_early 0 from (omega arith))
-puts_at (suc zero) from to none = absurd (too_early 1 from (omega arith))
-puts_at (suc (suc zero)) from to none = absurd (too_early 2 from (omega arith))
-puts_at (suc (suc (suc zero))) from to none = absurd (too_early 3 from (omega arith))
-puts_at (suc (suc (suc (suc zero)))) from to none = absurd (too_early 4 from (omega arith))
-puts_at (suc (suc (suc (suc (suc zero))))) from to none = absurd (too_early 5 from (omega arith))
-puts_at (suc (suc (suc (suc (suc (suc zero)))))) from to none = absurd (too_early 6 from (omega arith))
-puts_at (suc (suc (suc (suc (suc (suc (suc zero))))))) from to none = absurd (too_early 7 from (omega arith))
-puts_at (suc (suc (suc (suc (suc (suc (suc (suc zero)))))))) from to none = absurd (too_early 8 from (omega arith))
-puts_at (suc (suc (suc (suc (suc (suc (suc (suc (suc zero))))))))) from to none = ([], refl, refl)
-puts_at (suc (suc (suc (suc (suc (suc (suc (suc (suc (suc zero)))))))))) from to none = ([], refl, refl)
-puts_at (suc (suc (suc (suc (suc (suc (suc (suc (suc (suc (suc zero))))))))))) from to none = ([], refl, refl)
-puts_at (suc (suc (suc (suc (suc (suc (suc (suc (suc (suc (suc (suc zero)))))))))))) from to none = ([], refl, refl)
-puts_at (suc (suc (suc (suc (suc (suc (suc (suc (suc (suc (suc (suc (suc zero))))))))))))) from to none = ([], refl, refl)
-puts_at (suc (suc (suc (suc (suc (suc (suc (suc (suc (suc (suc (suc (suc (suc zero)))))))))))))) from to none = ([], refl, refl)
-puts_at (suc (suc (suc (suc (suc (suc (suc (suc (suc (suc (suc (suc (suc (suc (suc zero))))))))))))))) from to none = ([], refl, refl)
-puts_at (suc (suc (suc (suc (suc (suc (suc (suc (suc (suc (suc (suc (suc (suc (suc (suc zero)))))))))))))))) from to none = absurd (open_after_16 none)
-puts_at (suc (suc (suc (suc (suc (suc (suc (suc (suc (suc (suc (suc (suc (suc (suc (suc (suc zero))))))))))))))))) from to none = (one_value, refl, refl)
-puts_at (suc (suc (suc (suc (suc (suc (suc (suc (suc (suc (suc (suc (suc (suc (suc (suc (suc (suc zero)))))))))))))))))) from to none = (one_value, refl, refl)
-puts_at (suc (suc (suc (suc (suc (suc (suc (suc (suc (suc (suc (suc (suc (suc (suc (suc (suc (suc (suc zero))))))))))))))))))) from to none = (one_value, refl, refl)
-puts_at (suc (suc (suc (suc (suc (suc (suc (suc (suc (suc (suc (suc (suc (suc (suc (suc (suc (suc (suc (suc zero)))))))))))))))))))) from to none = (one_value, refl, refl)
-puts_at (suc (suc (suc (suc (suc (suc (suc (suc (suc (suc (suc (suc (suc (suc (suc (suc (suc (suc (suc (suc (suc zero))))))))))))))))))))) from to none = (one_value, refl, refl)
-puts_at (suc (suc (suc (suc (suc (suc (suc (suc (suc (suc (suc (suc (suc (suc (suc (suc (suc (suc (suc (suc (suc (suc zero)))))))))))))))))))))) from to none = (one_value, refl, refl)
-puts_at (suc (suc (suc (suc (suc (suc (suc (suc (suc (suc (suc (suc (suc (suc (suc (suc (suc (suc (suc (suc (suc (suc (suc zero))))))))))))))))))))))) from to none = (one_value, refl, refl)
-puts_at (suc (suc (suc (suc (suc (suc (suc (suc (suc (suc (suc (suc (suc (suc (suc (suc (suc (suc (suc (suc (suc (suc (suc (suc zero)))))))))))))))))))))))) from to none = absurd (open_after_24 none)
-puts_at (suc (suc (suc (suc (suc (suc (suc (suc (suc (suc (suc (suc (suc (suc (suc (suc (suc (suc (suc (suc (suc (suc (suc (suc (suc zero))))))))))))))))))))))))) from to none = (both_values, refl, refl)
-puts_at (suc (suc (suc (suc (suc (suc (suc (suc (suc (suc (suc (suc (suc (suc (suc (suc (suc (suc (suc (suc (suc (suc (suc (suc (suc (suc zero)))))))))))))))))))))))))) from to none = (both_values, refl, refl)
-puts_at (suc (suc (suc (suc (suc (suc (suc (suc (suc (suc (suc (suc (suc (suc (suc (suc (suc (suc (suc (suc (suc (suc (suc (suc (suc (suc (suc k))))))))))))))))))))))))))) from to none = absurd (too_late k to)
+abbrev PutsAt : ℕ → Type 0
+PutsAt k = NoWindow counter_map two_ticks k → PutsAre program counter_map two_ticks k []
+
+puts_at : AllFrom 9 18 PutsAt
+puts_at = (λ none. ([], refl, refl), (λ none. ([], refl, refl), (λ none. ([], refl, refl), (λ none. ([], refl, refl), (λ none. ([], refl, refl), (λ none. ([], refl, refl), (λ none. ([], refl, refl), (λ none. absurd (open_after_16 none), (λ none. (one_value, refl, refl), (λ none. (one_value, refl, refl), (λ none. (one_value, refl, refl), (λ none. (one_value, refl, refl), (λ none. (one_value, refl, refl), (λ none. (one_value, refl, refl), (λ none. (one_value, refl, refl), (λ none. absurd (open_after_24 none), (λ none. (both_values, refl, refl), (λ none. (both_values, refl, refl), tt))))))))))))))))))
 
 -- A list is no longer than itself, so no window stands open where as many have opened as committed.
 longer : (xs : List (List ℕ)) (e : List ℕ) → xs ≡ xs ++ e ∷ [] → ⊥
@@ -81,36 +58,24 @@ InWindow k e =
     × (state_after program (commits counter_map two_ticks k) ≡ Some state) × (react program state e ≡ Some reaction)
     × PutsAre program counter_map two_ticks k (take i (reaction_puts program reaction.ports))
 
-window_at : (k : ℕ) (e : List ℕ) → 9 ≤ k → k ≤ 26 → Window counter_map two_ticks k e → InWindow k e
-window_at zero e from to it = absurd (too_early 0 from (omega arith))
-window_at (suc zero) e from to it = absurd (too_early 1 from (omega arith))
-window_at (suc (suc zero)) e from to it = absurd (too_early 2 from (omega arith))
-window_at (suc (suc (suc zero))) e from to it = absurd (too_early 3 from (omega arith))
-window_at (suc (suc (suc (suc zero)))) e from to it = absurd (too_early 4 from (omega arith))
-window_at (suc (suc (suc (suc (suc zero))))) e from to it = absurd (too_early 5 from (omega arith))
-window_at (suc (suc (suc (suc (suc (suc zero)))))) e from to it = absurd (too_early 6 from (omega arith))
-window_at (suc (suc (suc (suc (suc (suc (suc zero))))))) e from to it = absurd (too_early 7 from (omega arith))
-window_at (suc (suc (suc (suc (suc (suc (suc (suc zero)))))))) e from to it = absurd (too_early 8 from (omega arith))
-window_at (suc (suc (suc (suc (suc (suc (suc (suc (suc zero))))))))) e from to it = absurd (closed [] (opens counter_map two_ticks 9) (commits counter_map two_ticks 9) e refl refl it)
-window_at (suc (suc (suc (suc (suc (suc (suc (suc (suc (suc zero)))))))))) e from to it = absurd (closed [] (opens counter_map two_ticks 10) (commits counter_map two_ticks 10) e refl refl it)
-window_at (suc (suc (suc (suc (suc (suc (suc (suc (suc (suc (suc zero))))))))))) e from to it = absurd (closed [] (opens counter_map two_ticks 11) (commits counter_map two_ticks 11) e refl refl it)
-window_at (suc (suc (suc (suc (suc (suc (suc (suc (suc (suc (suc (suc zero)))))))))))) e from to it = absurd (closed [] (opens counter_map two_ticks 12) (commits counter_map two_ticks 12) e refl refl it)
-window_at (suc (suc (suc (suc (suc (suc (suc (suc (suc (suc (suc (suc (suc zero))))))))))))) e from to it = absurd (closed [] (opens counter_map two_ticks 13) (commits counter_map two_ticks 13) e refl refl it)
-window_at (suc (suc (suc (suc (suc (suc (suc (suc (suc (suc (suc (suc (suc (suc zero)))))))))))))) e from to it = absurd (closed [] (opens counter_map two_ticks 14) (commits counter_map two_ticks 14) e refl refl it)
-window_at (suc (suc (suc (suc (suc (suc (suc (suc (suc (suc (suc (suc (suc (suc (suc zero))))))))))))))) e from to it = absurd (closed [] (opens counter_map two_ticks 15) (commits counter_map two_ticks 15) e refl refl it)
-window_at (suc (suc (suc (suc (suc (suc (suc (suc (suc (suc (suc (suc (suc (suc (suc (suc zero)))))))))))))))) e from to it = (0 ∷ [], to_1, 0, refl, first_reaction e (is_tick e (last_is_tick [] (opens counter_map two_ticks 16) (commits counter_map two_ticks 16) e refl refl it)), ([], refl, refl))
-window_at (suc (suc (suc (suc (suc (suc (suc (suc (suc (suc (suc (suc (suc (suc (suc (suc (suc zero))))))))))))))))) e from to it = absurd (closed (tick ∷ []) (opens counter_map two_ticks 17) (commits counter_map two_ticks 17) e refl refl it)
-window_at (suc (suc (suc (suc (suc (suc (suc (suc (suc (suc (suc (suc (suc (suc (suc (suc (suc (suc zero)))))))))))))))))) e from to it = absurd (closed (tick ∷ []) (opens counter_map two_ticks 18) (commits counter_map two_ticks 18) e refl refl it)
-window_at (suc (suc (suc (suc (suc (suc (suc (suc (suc (suc (suc (suc (suc (suc (suc (suc (suc (suc (suc zero))))))))))))))))))) e from to it = absurd (closed (tick ∷ []) (opens counter_map two_ticks 19) (commits counter_map two_ticks 19) e refl refl it)
-window_at (suc (suc (suc (suc (suc (suc (suc (suc (suc (suc (suc (suc (suc (suc (suc (suc (suc (suc (suc (suc zero)))))))))))))))))))) e from to it = absurd (closed (tick ∷ []) (opens counter_map two_ticks 20) (commits counter_map two_ticks 20) e refl refl it)
-window_at (suc (suc (suc (suc (suc (suc (suc (suc (suc (suc (suc (suc (suc (suc (suc (suc (suc (suc (suc (suc (suc zero))))))))))))))))))))) e from to it = absurd (closed (tick ∷ []) (opens counter_map two_ticks 21) (commits counter_map two_ticks 21) e refl refl it)
-window_at (suc (suc (suc (suc (suc (suc (suc (suc (suc (suc (suc (suc (suc (suc (suc (suc (suc (suc (suc (suc (suc (suc zero)))))))))))))))))))))) e from to it = absurd (closed (tick ∷ []) (opens counter_map two_ticks 22) (commits counter_map two_ticks 22) e refl refl it)
-window_at (suc (suc (suc (suc (suc (suc (suc (suc (suc (suc (suc (suc (suc (suc (suc (suc (suc (suc (suc (suc (suc (suc (suc zero))))))))))))))))))))))) e from to it = absurd (closed (tick ∷ []) (opens counter_map two_ticks 23) (commits counter_map two_ticks 23) e refl refl it)
-window_at (suc (suc (suc (suc (suc (suc (suc (suc (suc (suc (suc (suc (suc (suc (suc (suc (suc (suc (suc (suc (suc (suc (suc (suc zero)))))))))))))))))))))))) e from to it = (1 ∷ [], to_2, 0, refl, second_reaction e (second_is_tick e (last_is_tick (tick ∷ []) (opens counter_map two_ticks 24) (commits counter_map two_ticks 24) e refl refl it)), (one_value, refl, refl))
-window_at (suc (suc (suc (suc (suc (suc (suc (suc (suc (suc (suc (suc (suc (suc (suc (suc (suc (suc (suc (suc (suc (suc (suc (suc (suc zero))))))))))))))))))))))))) e from to it = absurd (closed (tick ∷ tick ∷ []) (opens counter_map two_ticks 25) (commits counter_map two_ticks 25) e refl refl it)
-window_at (suc (suc (suc (suc (suc (suc (suc (suc (suc (suc (suc (suc (suc (suc (suc (suc (suc (suc (suc (suc (suc (suc (suc (suc (suc (suc zero)))))))))))))))))))))))))) e from to it = absurd (closed (tick ∷ tick ∷ []) (opens counter_map two_ticks 26) (commits counter_map two_ticks 26) e refl refl it)
-window_at (suc (suc (suc (suc (suc (suc (suc (suc (suc (suc (suc (suc (suc (suc (suc (suc (suc (suc (suc (suc (suc (suc (suc (suc (suc (suc (suc k))))))))))))))))))))))))))) e from to it = absurd (too_late k to)
+abbrev WindowAt : ℕ → Type 0
+WindowAt k = (e : List ℕ) → Window counter_map two_ticks k e → InWindow k e
+
+no_window : (k : ℕ) (xs : List (List ℕ)) → opens counter_map two_ticks k ≡ xs → commits counter_map two_ticks k ≡ xs → WindowAt k
+no_window k xs o c e it = absurd (closed xs (opens counter_map two_ticks k) (commits counter_map two_ticks k) e o c it)
+
+first_window : WindowAt 16
+first_window e it =
+    (0 ∷ [], to_1, 0, refl, first_reaction e (is_tick e (last_is_tick [] (opens counter_map two_ticks 16) (commits counter_map two_ticks 16) e refl refl it)), ([], refl, refl))
+
+second_window : WindowAt 24
+second_window e it =
+    (1 ∷ [], to_2, 0, refl, second_reaction e (second_is_tick e (last_is_tick (tick ∷ []) (opens counter_map two_ticks 24) (commits counter_map two_ticks 24) e refl refl it)), (one_value, refl, refl))
+
+windows_at : AllFrom 9 18 WindowAt
+windows_at = (no_window 9 [] refl refl, (no_window 10 [] refl refl, (no_window 11 [] refl refl, (no_window 12 [] refl refl, (no_window 13 [] refl refl, (no_window 14 [] refl refl, (no_window 15 [] refl refl, (first_window, (no_window 17 (tick ∷ []) refl refl, (no_window 18 (tick ∷ []) refl refl, (no_window 19 (tick ∷ []) refl refl, (no_window 20 (tick ∷ []) refl refl, (no_window 21 (tick ∷ []) refl refl, (no_window 22 (tick ∷ []) refl refl, (no_window 23 (tick ∷ []) refl refl, (second_window, (no_window 25 (tick ∷ tick ∷ []) refl refl, (no_window 26 (tick ∷ tick ∷ []) refl refl, tt))))))))))))))))))
 
 puts_are_serial : PutsAreSerial program counter_map two_ticks 26
 puts_are_serial r k is_it after_ready to =
-    (λ none. puts_at k (from_ready r k (ready_from r is_it) after_ready) to none, λ e it. window_at k e (from_ready r k (ready_from r is_it) after_ready) to it)
+    let from = from_ready r k (ready_from r is_it) after_ready in
+    (each 9 18 PutsAt puts_at k from (omega arith), each 9 18 WindowAt windows_at k from (omega arith))

@@ -1,11 +1,12 @@
 -- The two ticks, at each moment of their 26 steps, by the serial run.
-use Rattle.std.specs.Prelude.{ℕ, zero, suc, ◌<◌, ◌≤◌, Bool, true, false, List, [], ◌∷◌, Some}
+use Rattle.std.specs.Prelude.{ℕ, ◌<◌, ◌≤◌, Bool, true, false, List, [], ◌∷◌, Some}
 use Rattle.std.proofs.Common.{◌≡◌, refl, sym, ◌∙◌, inl, inr, arith}
 use Rattle.frp_tree.specs.Meaning.{state_after}
 use Rattle.stack_bound.specs.Counts.{chip_after, takes, opens, commits}
 use Rattle.stack_bound.specs.Ready.{ShowsReady, ReadyAt}
 use Rattle.stack_bound.specs.Follows.{StatesAreSerial, NoWindow}
 use Rattle.stack_bound.specs.MapNames.{states_in}
+use Rattle.run_examples.proofs.Moments.{AllFrom, each}
 use Rattle.run_examples.proofs.Counting.{tick, program, counter_map, two_ticks}
 
 -- A moment with the program counter below the ready address, before a step that takes no interrupt, isn't ready.
@@ -20,17 +21,14 @@ elsewhere k at is_there runs h (inl s) = below_15 (chip_after two_ticks k).pc at
 elsewhere k at is_there runs h (inr s) = not_both (takes (two_ticks k)) runs s.1
 
 -- The ready boundary is after nine steps.
+abbrev Unready : ℕ → Type 0
+Unready k = ShowsReady counter_map two_ticks 26 k → ⊥
+
+unready : AllFrom 0 9 Unready
+unready = (elsewhere 0 0 refl refl (omega arith), (elsewhere 1 1 refl refl (omega arith), (elsewhere 2 2 refl refl (omega arith), (elsewhere 3 3 refl refl (omega arith), (elsewhere 4 10 refl refl (omega arith), (elsewhere 5 11 refl refl (omega arith), (elsewhere 6 12 refl refl (omega arith), (elsewhere 7 13 refl refl (omega arith), (elsewhere 8 14 refl refl (omega arith), tt)))))))))
+
 not_before : (k : ℕ) → k < 9 → ShowsReady counter_map two_ticks 26 k → ⊥
-not_before zero h s = elsewhere 0 0 refl refl (omega arith) s
-not_before (suc zero) h s = elsewhere 1 1 refl refl (omega arith) s
-not_before (suc (suc zero)) h s = elsewhere 2 2 refl refl (omega arith) s
-not_before (suc (suc (suc zero))) h s = elsewhere 3 3 refl refl (omega arith) s
-not_before (suc (suc (suc (suc zero)))) h s = elsewhere 4 10 refl refl (omega arith) s
-not_before (suc (suc (suc (suc (suc zero))))) h s = elsewhere 5 11 refl refl (omega arith) s
-not_before (suc (suc (suc (suc (suc (suc zero)))))) h s = elsewhere 6 12 refl refl (omega arith) s
-not_before (suc (suc (suc (suc (suc (suc (suc zero))))))) h s = elsewhere 7 13 refl refl (omega arith) s
-not_before (suc (suc (suc (suc (suc (suc (suc (suc zero)))))))) h s = elsewhere 8 14 refl refl (omega arith) s
-not_before (suc (suc (suc (suc (suc (suc (suc (suc (suc k))))))))) h s = omega arith
+not_before k h = each 0 9 Unready unready k (omega arith) h
 
 ready_at : ReadyAt counter_map two_ticks 26 9
 ready_at = record { shown = inl (omega arith, refl); least = not_before }
@@ -51,46 +49,15 @@ open_after_16 = one_more_opened (opens counter_map two_ticks 16) (commits counte
 pub open_after_24 : NoWindow counter_map two_ticks 24 → ⊥
 open_after_24 = second_opened (opens counter_map two_ticks 24) (commits counter_map two_ticks 24) refl refl
 
-pub too_early : (k : ℕ) → 9 ≤ k → k < 9 → ⊥
-too_early k from before = omega arith
-
-pub too_late : (k : ℕ) → suc (suc (suc (suc (suc (suc (suc (suc (suc (suc (suc (suc (suc (suc (suc (suc (suc (suc (suc (suc (suc (suc (suc (suc (suc (suc (suc k)))))))))))))))))))))))))) ≤ 26 → ⊥
-too_late k to = omega arith
-
 -- From the ready boundary on, where no window stands open, the state is that of the serial run of the commits.
-state_at : (k : ℕ) → 9 ≤ k → k ≤ 26 → NoWindow counter_map two_ticks k
-    → state_after program (commits counter_map two_ticks k) ≡ Some (states_in counter_map (chip_after two_ticks k))
-state_at zero from to none = absurd (too_early 0 from (omega arith))
-state_at (suc zero) from to none = absurd (too_early 1 from (omega arith))
-state_at (suc (suc zero)) from to none = absurd (too_early 2 from (omega arith))
-state_at (suc (suc (suc zero))) from to none = absurd (too_early 3 from (omega arith))
-state_at (suc (suc (suc (suc zero)))) from to none = absurd (too_early 4 from (omega arith))
-state_at (suc (suc (suc (suc (suc zero))))) from to none = absurd (too_early 5 from (omega arith))
-state_at (suc (suc (suc (suc (suc (suc zero)))))) from to none = absurd (too_early 6 from (omega arith))
-state_at (suc (suc (suc (suc (suc (suc (suc zero))))))) from to none = absurd (too_early 7 from (omega arith))
-state_at (suc (suc (suc (suc (suc (suc (suc (suc zero)))))))) from to none = absurd (too_early 8 from (omega arith))
-state_at (suc (suc (suc (suc (suc (suc (suc (suc (suc zero))))))))) from to none = refl
-state_at (suc (suc (suc (suc (suc (suc (suc (suc (suc (suc zero)))))))))) from to none = refl
-state_at (suc (suc (suc (suc (suc (suc (suc (suc (suc (suc (suc zero))))))))))) from to none = refl
-state_at (suc (suc (suc (suc (suc (suc (suc (suc (suc (suc (suc (suc zero)))))))))))) from to none = refl
-state_at (suc (suc (suc (suc (suc (suc (suc (suc (suc (suc (suc (suc (suc zero))))))))))))) from to none = refl
-state_at (suc (suc (suc (suc (suc (suc (suc (suc (suc (suc (suc (suc (suc (suc zero)))))))))))))) from to none = refl
-state_at (suc (suc (suc (suc (suc (suc (suc (suc (suc (suc (suc (suc (suc (suc (suc zero))))))))))))))) from to none = refl
-state_at (suc (suc (suc (suc (suc (suc (suc (suc (suc (suc (suc (suc (suc (suc (suc (suc zero)))))))))))))))) from to none = absurd (open_after_16 none)
-state_at (suc (suc (suc (suc (suc (suc (suc (suc (suc (suc (suc (suc (suc (suc (suc (suc (suc zero))))))))))))))))) from to none = refl
-state_at (suc (suc (suc (suc (suc (suc (suc (suc (suc (suc (suc (suc (suc (suc (suc (suc (suc (suc zero)))))))))))))))))) from to none = refl
-state_at (suc (suc (suc (suc (suc (suc (suc (suc (suc (suc (suc (suc (suc (suc (suc (suc (suc (suc (suc zero))))))))))))))))))) from to none = refl
-state_at (suc (suc (suc (suc (suc (suc (suc (suc (suc (suc (suc (suc (suc (suc (suc (suc (suc (suc (suc (suc zero)))))))))))))))))))) from to none = refl
-state_at (suc (suc (suc (suc (suc (suc (suc (suc (suc (suc (suc (suc (suc (suc (suc (suc (suc (suc (suc (suc (suc zero))))))))))))))))))))) from to none = refl
-state_at (suc (suc (suc (suc (suc (suc (suc (suc (suc (suc (suc (suc (suc (suc (suc (suc (suc (suc (suc (suc (suc (suc zero)))))))))))))))))))))) from to none = refl
-state_at (suc (suc (suc (suc (suc (suc (suc (suc (suc (suc (suc (suc (suc (suc (suc (suc (suc (suc (suc (suc (suc (suc (suc zero))))))))))))))))))))))) from to none = refl
-state_at (suc (suc (suc (suc (suc (suc (suc (suc (suc (suc (suc (suc (suc (suc (suc (suc (suc (suc (suc (suc (suc (suc (suc (suc zero)))))))))))))))))))))))) from to none = absurd (open_after_24 none)
-state_at (suc (suc (suc (suc (suc (suc (suc (suc (suc (suc (suc (suc (suc (suc (suc (suc (suc (suc (suc (suc (suc (suc (suc (suc (suc zero))))))))))))))))))))))))) from to none = refl
-state_at (suc (suc (suc (suc (suc (suc (suc (suc (suc (suc (suc (suc (suc (suc (suc (suc (suc (suc (suc (suc (suc (suc (suc (suc (suc (suc zero)))))))))))))))))))))))))) from to none = refl
-state_at (suc (suc (suc (suc (suc (suc (suc (suc (suc (suc (suc (suc (suc (suc (suc (suc (suc (suc (suc (suc (suc (suc (suc (suc (suc (suc (suc k))))))))))))))))))))))))))) from to none = absurd (too_late k to)
+abbrev StateAt : ℕ → Type 0
+StateAt k = NoWindow counter_map two_ticks k → state_after program (commits counter_map two_ticks k) ≡ Some (states_in counter_map (chip_after two_ticks k))
+
+states_at : AllFrom 9 18 StateAt
+states_at = (λ none. refl, (λ none. refl, (λ none. refl, (λ none. refl, (λ none. refl, (λ none. refl, (λ none. refl, (λ none. absurd (open_after_16 none), (λ none. refl, (λ none. refl, (λ none. refl, (λ none. refl, (λ none. refl, (λ none. refl, (λ none. refl, (λ none. absurd (open_after_24 none), (λ none. refl, (λ none. refl, tt))))))))))))))))))
 
 pub from_ready : (r k : ℕ) → (r < 9 → ⊥) → r ≤ k → 9 ≤ k
 from_ready r k late h = omega arith
 
 states_are_serial : StatesAreSerial program counter_map two_ticks 26
-states_are_serial r k is_it after_ready to none = state_at k (from_ready r k (ready_from r is_it) after_ready) to none
+states_are_serial r k is_it after_ready to = each 9 18 StateAt states_at k (from_ready r k (ready_from r is_it) after_ready) (omega arith)

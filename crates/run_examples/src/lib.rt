@@ -1,4 +1,5 @@
-//! Computed runs: the code that the compiler emits, on the chip, seen through the counts of the promises.
+//! Computed runs: the code that the compiler emits for a counter, on the chip, seen through the counts of the promises.
 //!
-//! The crate has examples alone. Each is one equation about the run of a counter's image.
+//! The crate has examples alone, in proofs/: what single runs do, and that a run of two ticks keeps what is promised of
+//! states and port writes at each moment.
 #![tactic(auto)]
