@@ -1,8 +1,7 @@
 -- Arrivals, sets and numbers.
-use Rattle.std.proofs.Common.{◌≡◌, ℕ, ◌+◌, ◌*◌, ◌/◌, ◌%◌, ◌<◌, ◌||◌, refl, arith}
+use Rattle.std.proofs.Common.{◌≡◌, ℕ, ◌/◌, ◌<◌, ◌||◌, refl, arith}
 use Rattle.pic_isa.specs.declared.sources.Source.{Source}
 use Rattle.pic_isa.specs.declared.sources.Source.TheVariants.{T0, Int, Psp, Ad, Ssp, Ccp1, Tmr2, Tmr1, Ee, Bcl, Ccp2}
-use Rattle.pic_regs.specs.Bytes.{one_if}
 use Rattle.pic_regs.specs.Registers.{Registers, flag, enable}
 use Rattle.pic_regs.specs.Arrivals.{Sources, no_source, set_of, number_of, arrived}
 use Rattle.pic_regs.proofs.ByteFacts.{one_if-odd, one_if-small, bit-num}

@@ -1,5 +1,5 @@
 -- Bytes and numbers: each is the other's, up to 256.
-use Rattle.std.proofs.Common.{◌≡◌, ℕ, ◌+◌, ◌*◌, ◌%◌, ◌/◌, ◌<◌, ◌≤◌, ◌==◌, Bool, true, false, refl, ap, ◌∙◌, sym, arith, lit≤}
+use Rattle.std.proofs.Common.{◌≡◌, ℕ, ◌%◌, ◌/◌, ◌<◌, ◌≤◌, ◌==◌, Bool, true, false, refl, ap, ◌∙◌, arith, lit≤}
 use Rattle.pic_regs.specs.Bytes.{Byte, num, bits, one_if, swapped, with_bit, bit}
 
 low_byte : num (bits 0x13A7) ≡ 0xA7

@@ -1,12 +1,11 @@
 -- Arrays that are filled byte by byte, as memories.
-use Rattle.std.proofs.Common.{◌≡◌, ℕ, ◌⊎◌, inl, inr, ◌+◌, ◌-◌, ◌<◌, ◌≤◌, Bool, true, false, List, length, get_or, set, ◌==◌, nat_le, if◌then◌else◌, Option, Some, None, refl, sym, ap, ◌∙◌, arith, get_or-set_same, get_or-set_other}
+use Rattle.std.proofs.Common.{◌≡◌, ℕ, ◌⊎◌, inl, inr, ◌+◌, ◌<◌, ◌≤◌, Bool, true, false, List, length, get_or, set, ◌==◌, refl, sym, ap, ◌∙◌, arith, get_or-set_same, get_or-set_other}
 use Rattle.std.proofs.Math.Path.{fun_ext}
 use Rattle.std.proofs.lemmas.Bool.{cases_lt, eqb-true, eqb-false}
 use Rattle.std.proofs.lemmas.List.{get_or_past}
 use Rattle.pic_regs.specs.declared.starts.Start.{Start}
 use Rattle.pic_regs.specs.Bytes.{Byte, bits, zeros}
-use Rattle.pic_regs.specs.Map.{within}
-use Rattle.pic_regs.specs.Start.{plain_start, ram_place, special_start}
+use Rattle.pic_regs.specs.Start.{plain_start}
 use Rattle.pic_regs.specs.State.{memory_of}
 
 -- One more byte is written.

@@ -1,11 +1,11 @@
 -- Reads, writes, flags and requests, by the data sheet's rules.
-use Rattle.std.proofs.Common.{◌≡◌, ℕ, ◌+◌, Bool, true, false, List, [], ◌∷◌, map, replicate, refl}
+use Rattle.std.proofs.Common.{◌≡◌, ℕ, true, false, [], ◌∷◌, map, replicate, refl}
 use Rattle.pic_isa.specs.declared.sources.Source.{Source}
 use Rattle.pic_isa.specs.declared.sources.Source.TheVariants.{T0, Int, Psp, Ad, Ssp, Ccp1, Tmr2, Tmr1, Ee, Bcl, Ccp2}
 use Rattle.pic_isa.specs.Sources.{flag_of, enable_of}
 use Rattle.pic_regs.specs.declared.starts.Start.{Start}
-use Rattle.pic_regs.specs.Bytes.{Byte, num, bits, bit}
-use Rattle.pic_regs.specs.Map.{Reg, Absent, Indf, Pcl, Status, Pclath, Pir1, Pir2, Pie1, Port, Tris, Plain, reg_at}
+use Rattle.pic_regs.specs.Bytes.{num, bits, bit}
+use Rattle.pic_regs.specs.Map.{reg_at}
 use Rattle.pic_regs.specs.Registers.{Registers, read, write, with_pins, flag, enable, requested}
 use Rattle.pic_regs.specs.Arrivals.{set_of, number_of, latched, merged, arrived}
 use Rattle.pic_regs.specs.Start.{registers_on}

@@ -1,5 +1,5 @@
 -- Sets of sources as numbers: the flags that they are in the registers, and what two of them share.
-use Rattle.std.proofs.Common.{◌≡◌, ℕ, ◌+◌, ◌-◌, ◌*◌, ◌/◌, ◌%◌, ◌^◌, ◌<◌, ◌≤◌, Bool, true, false, not, ◌&&◌, ◌==◌, bit_and, w16, refl, sym, ap, ◌∙◌, arith, lit<}
+use Rattle.std.proofs.Common.{◌≡◌, ℕ, ◌+◌, ◌*◌, ◌/◌, ◌%◌, ◌<◌, not, ◌&&◌, ◌==◌, bit_and, w16, sym, ap, ◌∙◌, arith, lit<}
 use Rattle.std.proofs.Math.Path.{fun_ext}
 use Rattle.std.specs.Int.{bit_at, bit_not}
 use Rattle.std.proofs.lemmas.Nat.{and_le_l}
@@ -7,7 +7,7 @@ use Rattle.std.proofs.lemmas.Nat.Bits.{bit_at_and, bit_at_not, bit_at-lt}
 use Rattle.pic_isa.specs.declared.sources.Source.{Source}
 use Rattle.pic_isa.specs.declared.sources.Source.TheVariants.{T0, Int, Psp, Ad, Ssp, Ccp1, Tmr2, Tmr1, Ee, Bcl, Ccp2}
 use Rattle.pic_isa.specs.Sources.{source_number}
-use Rattle.pic_regs.specs.Bytes.{Byte, bits, one_if, zeros}
+use Rattle.pic_regs.specs.Bytes.{bits, zeros}
 use Rattle.pic_regs.specs.Arrivals.{Sources, set_of, number_of}
 use Rattle.pic_regs.proofs.ArrivalFacts.{number_of-set_of, set_of-number_of}
 use Rattle.pic_regs.proofs.BitFacts.{and_one, not_one}

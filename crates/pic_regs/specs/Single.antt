@@ -1,4 +1,4 @@
-use Rattle.std.specs.Prelude.{Bool, ◌==◌}
+use Rattle.std.specs.Prelude.{◌==◌}
 use Rattle.pic_isa.specs.declared.sources.Source.{Source}
 use Rattle.pic_isa.specs.Sources.{source_number}
 use Rattle.pic_regs.specs.Arrivals.{Sources}
