@@ -1,6 +1,7 @@
 -- Counters, their images, maps and runs, for the examples.
 use Rattle.std.specs.Prelude.{ℕ, ◌^◌, Bool, true, nat_le, List, [], ◌∷◌, ◌++◌, codes, replicate, Option, Some, None}
 use Rattle.frp_tree.specs.Tree.{ProgramTree}
+use Rattle.frp_tree.proofs.Programs.{tick}
 use Rattle.pic_isa.specs.declared.sources.Source.{Source}
 use Rattle.pic_isa.specs.declared.sources.Source.TheVariants.{T0}
 use Rattle.pic_isa.specs.Sources.{source_number}
@@ -19,9 +20,6 @@ use Rattle.firmware.specs.Layout.{image_of}
 use Rattle.firmware.specs.Maps.{map_of}
 use Rattle.stack_bound.specs.MapNames.{is_listed}
 use Rattle.stack_bound.specs.Counts.{chip_after}
-
-abbrev pub tick : List ℕ
-tick = codes "Tick"
 
 -- A counter of Tick by its source, its setup, its first value, what it adds and its port.
 abbrev pub counter_of : Source → Option SetupAt → ℕ → ℕ → ℕ → Counter

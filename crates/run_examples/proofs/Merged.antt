@@ -1,13 +1,14 @@
 -- Arrivals that come before they can be heard, and arrivals that find the flag set.
 use Rattle.std.specs.Prelude.{Bool, true, [], ◌∷◌}
 use Rattle.std.proofs.Common.{◌≡◌, refl}
+use Rattle.frp_tree.proofs.Programs.{tick}
 use Rattle.pic_isa.specs.declared.sources.Source.TheVariants.{T0}
 use Rattle.pic_machine.specs.declared.steps.Did.TheVariants.{Took, Ran}
 use Rattle.pic_machine.specs.Boundary.{Step}
 use Rattle.pic_machine.specs.Run.{Log}
 use Rattle.stack_bound.specs.Counts.{commits, port_writes, chip_after, count, latched_count, cleared_count, flag_after, is_under_way}
 use Rattle.stack_bound.specs.MapNames.{states_in}
-use Rattle.run_examples.proofs.Counting.{tick, counter_map, tick_event, twice_at, puts}
+use Rattle.run_examples.proofs.Counting.{counter_map, tick_event, twice_at, puts}
 
 -- A step at whose boundary T0 finds its flag set.
 abbrev merges : Step → Bool

@@ -2,10 +2,11 @@
 use Rattle.std.specs.Prelude.{ℕ, List, [], ◌∷◌, ◌++◌, take, Some}
 use Rattle.std.proofs.Common.{◌≡◌, refl, sym, ◌∙◌, ap, arith}
 use Rattle.frp_tree.specs.Meaning.{Reaction, react, state_after}
+use Rattle.frp_tree.proofs.Programs.{tick}
 use Rattle.stack_bound.specs.Counts.{opens, commits}
 use Rattle.stack_bound.specs.Follows.{PutsAreSerial, PutsAre, NoWindow, Window, reaction_puts}
 use Rattle.run_examples.proofs.Moments.{AllFrom, each}
-use Rattle.run_examples.proofs.Counting.{tick, program, counter_map, two_ticks}
+use Rattle.run_examples.proofs.Counting.{program, counter_map, two_ticks}
 use Rattle.run_examples.proofs.Serial.{open_after_16, open_after_24, ready_from, from_ready}
 
 -- The port values of none, of one and of both reactions.

@@ -2,12 +2,13 @@
 use Rattle.std.specs.Prelude.{ℕ, ◌<◌, ◌≤◌, Bool, true, false, List, [], ◌∷◌, Some}
 use Rattle.std.proofs.Common.{◌≡◌, refl, sym, ◌∙◌, inl, inr, arith}
 use Rattle.frp_tree.specs.Meaning.{state_after}
+use Rattle.frp_tree.proofs.Programs.{tick}
 use Rattle.stack_bound.specs.Counts.{chip_after, takes, opens, commits}
 use Rattle.stack_bound.specs.Ready.{ShowsReady, ReadyAt}
 use Rattle.stack_bound.specs.Follows.{StatesAreSerial, NoWindow}
 use Rattle.stack_bound.specs.MapNames.{states_in}
 use Rattle.run_examples.proofs.Moments.{AllFrom, each}
-use Rattle.run_examples.proofs.Counting.{tick, program, counter_map, two_ticks}
+use Rattle.run_examples.proofs.Counting.{program, counter_map, two_ticks}
 
 -- A moment with the program counter below the ready address, before a step that takes no interrupt, isn't ready.
 below_15 : (pc at : ℕ) → pc ≡ at → at < 15 → pc ≡ 15 → ⊥

@@ -2,6 +2,7 @@
 use Rattle.std.specs.Prelude.{ℕ, List, [], ◌∷◌, ◌++◌, codes, Option, Some, None}
 use Rattle.std.proofs.Common.{◌≡◌, refl}
 use Rattle.frp_tree.specs.Meaning.{state_after}
+use Rattle.frp_tree.proofs.Programs.{tick}
 use Rattle.pic_isa.specs.declared.sources.Source.{Source}
 use Rattle.pic_isa.specs.declared.sources.Source.TheVariants.{T0, Int, Psp, Ad, Ssp, Ccp1, Tmr2, Tmr1, Ee, Bcl, Ccp2}
 use Rattle.pic_machine.specs.Run.{Log, run}
@@ -12,7 +13,7 @@ use Rattle.firmware.specs.Layout.{image_of}
 use Rattle.firmware.specs.Maps.{map_of}
 use Rattle.stack_bound.specs.Counts.{commits, port_writes, chip_after}
 use Rattle.stack_bound.specs.MapNames.{states_in, byte_at}
-use Rattle.run_examples.proofs.Counting.{tick, counter_of, pins_out, start, quiet, alone, puts}
+use Rattle.run_examples.proofs.Counting.{counter_of, pins_out, start, quiet, alone, puts}
 
 -- The run of a counter where a source arrives at boundary 20 and nothing else does.
 abbrev on_one : Counter → Source → Log

@@ -2,13 +2,14 @@
 use Rattle.std.specs.Prelude.{[], ◌∷◌, map, Some}
 use Rattle.std.proofs.Common.{◌≡◌, refl}
 use Rattle.frp_tree.specs.Meaning.{state_after, ports_after}
+use Rattle.frp_tree.proofs.Programs.{tick}
 use Rattle.pic_machine.specs.declared.steps.Did.TheVariants.{Took, Ran}
 use Rattle.firmware.specs.Maps as maps
 use Rattle.stack_bound.specs.Counts.{commits, opens, port_writes, chip_after, count, latched_count, cleared_count, commit_count}
 use Rattle.stack_bound.specs.Firmware.{count_below}
 use Rattle.stack_bound.specs.Follows.{reaction_puts}
 use Rattle.stack_bound.specs.MapNames.{states_in, byte_at}
-use Rattle.run_examples.proofs.Counting.{tick, program, image, counter_map, tick_event, two_ticks, puts, fits, writes_listed}
+use Rattle.run_examples.proofs.Counting.{program, image, counter_map, tick_event, two_ticks, puts, fits, writes_listed}
 
 -- The words, as the data sheet writes MOVLW 0; MOVWF 20h; BSF STATUS,5; GOTO 00Ah, the handler, and the rest of the boot.
 words_are : map (λ w. w.word) image.words
