@@ -1,1 +1,3 @@
+pub mod BootSteps
+pub mod Spots
 pub mod Story

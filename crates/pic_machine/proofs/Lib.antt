@@ -5,3 +5,4 @@ pub mod HalfKnown
 pub mod RegisterExamples
 pub mod RunExamples
 pub mod Settings
+pub mod Turns
