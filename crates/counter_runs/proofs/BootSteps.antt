@@ -164,7 +164,7 @@ pub record Boots (c : Counter) (target : Reg) (s : Spot) (st : Done) (x : Chip) 
   pub cells : Cells c target s x.regs step.after.regs
 
 -- The spot fits: its register may be set up, its source is in PIE1 or PIE2, it is one of the boot.
-abbrev is_target : Reg → Bool
+abbrev pub is_target : Reg → Bool
 is_target (Port n) = true
 is_target (Tris n) = true
 is_target (Plain a) = true
@@ -177,7 +177,7 @@ fits c target (At place) = false
 fits c target _ = true
 
 -- The step of a spot from what is known before it.
-abbrev before : Counter → Spot → Done → Chip → Chip
+abbrev pub before : Counter → Spot → Done → Chip → Chip
 before c s st x = known c (needs (kind_of c.setup) s st) x
 
 abbrev BootsFrom : Counter → Reg → Spot → Done → Chip → Sources → ℕ → Type 0

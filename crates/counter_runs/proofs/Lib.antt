@@ -1,3 +1,4 @@
 pub mod BootSteps
 pub mod Spots
 pub mod Story
+pub mod Targets
