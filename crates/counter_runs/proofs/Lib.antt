@@ -1,3 +1,4 @@
+pub mod BootRuns
 pub mod BootSteps
 pub mod Spots
 pub mod Story

@@ -31,11 +31,11 @@ use Rattle.counter_runs.proofs.BootSteps.{Done, Stores, is_high, is_target, need
 
 -- The setup's register is the target.
 abbrev pub Aimed : Option SetupAt → Reg → Type 0
-Aimed None target = Unit {0}
+Aimed None target = target ≡ Absent
 Aimed (Some s) target = (reg_at s.address ≡ target) × Suits s.register s.address target × (s.byte < 256) × (s.address < 256)
 
 pub aimed : (setup : Option SetupAt) → IfSome setup IsSetup → (target : Reg) × Aimed setup target
-aimed None fine = (Absent, tt)
+aimed None fine = (Absent, refl)
 aimed (Some s) fine = let may = may_set_up s.register s.address fine.0 in (may.0, (may.1, may.2, fine.1, setup_below (Some s) fine))
 
 pub suits_target : (name : List ℕ) (a : ℕ) (target : Reg) → Suits name a target → is_target target ≡ true
