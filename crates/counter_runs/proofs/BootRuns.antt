@@ -64,7 +64,7 @@ way HighSetup false = (refl, refl, refl, refl, refl, (refl, refl, refl, refl, re
 way HighSetup true = (refl, refl, refl, refl, refl, (refl, refl, refl, refl, refl, (refl, refl, refl, refl, refl, (refl, refl, refl, refl, refl, (refl, refl, refl, refl, refl, (refl, refl, refl, refl, refl, (refl, refl, refl, refl, refl, (refl, refl, refl, refl, refl, (refl, refl, refl, refl, refl, (refl, refl, refl, refl, refl, (refl, refl)))))))))))
 
 -- The setup's byte goes on standing, where there is a setup.
-stands_still : (setup : Option SetupAt) (target : Reg) (old new : Registers) → Aimed setup target → new.tris ≡ old.tris → ((b : ℕ) → (b == state_byte) ≡ false → new.plain b ≡ old.plain b)
+pub stands_still : (setup : Option SetupAt) (target : Reg) (old new : Registers) → Aimed setup target → new.tris ≡ old.tris → ((b : ℕ) → (b == state_byte) ≡ false → new.plain b ≡ old.plain b)
     → Stands target (byte_of setup) old → Stands target (byte_of setup) new
 stands_still None target old new is_aimed tris plain stands = subst (λ t. Stands t 0 new) (sym is_aimed) tt
 stands_still (Some s) target old new is_aimed tris plain stands = stands_on s.register s.address target s.byte old new is_aimed.1 tris plain stands

@@ -1,7 +1,10 @@
 pub mod BootRuns
 pub mod BootSteps
 pub mod Listed
+pub mod PlaceFacts
+pub mod PlaceRuns
 pub mod PlaceSteps
 pub mod Spots
 pub mod Story
 pub mod Targets
+pub mod Writes

@@ -8,11 +8,11 @@ use Rattle.map_file.specs.declared.maps.Range.{Range}
 use Rattle.firmware.specs.Maps.{with_address, ranges_below}
 use Rattle.stack_bound.specs.MapNames.{is_in}
 
-either_true : (x y : Bool) → y ≡ true → (x || y) ≡ true
+pub either_true : (x y : Bool) → y ≡ true → (x || y) ≡ true
 either_true true y e = refl
 either_true false y e = e
 
-first_true : (x y : Bool) → x ≡ true → (x || y) ≡ true
+pub first_true : (x y : Bool) → x ≡ true → (x || y) ≡ true
 first_true x y e = ap (λ b. b || y) e
 
 -- A range in which an address is.
