@@ -7,4 +7,5 @@ pub mod PlaceSteps
 pub mod Spots
 pub mod Story
 pub mod Targets
+pub mod Told
 pub mod Writes
