@@ -1,9 +1,11 @@
+pub mod Accounts
 pub mod BootRuns
 pub mod BootSteps
 pub mod Listed
 pub mod PlaceFacts
 pub mod PlaceRuns
 pub mod PlaceSteps
+pub mod Sound
 pub mod Spots
 pub mod Story
 pub mod Targets

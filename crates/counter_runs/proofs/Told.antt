@@ -16,6 +16,7 @@ use Rattle.pic_machine.specs.declared.steps.PortWrite.{PortWrite}
 use Rattle.pic_machine.specs.Chip.{Chip}
 use Rattle.pic_machine.specs.Boundary.{Step}
 use Rattle.pic_machine.specs.Run.{Log, program_of, power_on, arrivals_of, after, run}
+use Rattle.pic_machine.proofs.Turns.{flag-latched}
 use Rattle.firmware.specs.declared.counters.Counter.{Counter}
 use Rattle.firmware.specs.declared.counters.SetupAt.{SetupAt}
 use Rattle.firmware.specs.Counters as programs
@@ -206,6 +207,11 @@ module _ (c : Counter) (fine : IsCounter c) (start : Start) (list : List Sources
     hears_when = λ k. (facts k).hears_when;
     values = λ k. (facts k).values ∙ ap (λ y. value_after c (place k) (byte_at y state_byte)) (sym (same (past ready k)));
     puts = λ k. (facts k).puts ∙ ap (λ y. puts_at c (place k) (byte_at y state_byte)) (sym (same (past ready k)));
+    arrival = λ n. ap (λ (y : Chip). one_if (flag c.source y.regs) + one_if (latches c.source (the_log n))) (same n) ∙ flag-latched c.source (arrivals_of list n) (x n);
     flag_at_first = flag_first c.source start;
     ledger = ledger;
   }
+
+  pub story_is_ready : story.ready ≡ ready
+  unfolding story
+  story_is_ready = refl

@@ -5,6 +5,7 @@ pub mod BrokenSettled
 pub mod BrokenUrgent
 pub mod BrokenValues
 pub mod CommitsAlone
+pub mod CountFacts
 pub mod Disturbed
 pub mod Early
 pub mod Edges
