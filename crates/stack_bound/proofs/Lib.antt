@@ -9,6 +9,7 @@ pub mod CountFacts
 pub mod Disturbed
 pub mod Early
 pub mod Edges
+pub mod FlagsSides
 pub mod GoodFollows
 pub mod GoodLog
 pub mod GoodOnce
