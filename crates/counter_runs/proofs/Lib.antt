@@ -1,2 +1,5 @@
+pub mod Follows
+pub mod Past
+pub mod Reactions
 pub mod Serial
 pub mod Story
