@@ -3,3 +3,4 @@ pub mod Past
 pub mod Reactions
 pub mod Serial
 pub mod Story
+pub mod Urgent
