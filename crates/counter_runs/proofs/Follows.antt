@@ -11,11 +11,12 @@ use Rattle.stack_bound.specs.MapNames.{states_in}
 use Rattle.stack_bound.specs.Counts.{chip_after, takes, opened_by, committed_by, opens, commits}
 use Rattle.stack_bound.specs.Ready.{ShowsReady, ReadyAt, BeforeReady}
 use Rattle.stack_bound.specs.Follows.{Follows, ReadyInTime, BootIsQuiet, Alternates, NoTakingInside, ClosesInTime, StatesAreSerial, PutsAreSerial, PutsAre, BootPutsSetups, NoWindow, Window, setup_puts, reaction_puts}
+use Rattle.stack_bound.proofs.CountFacts.{one_more}
 use Rattle.stack_bound.proofs.ListFacts.{no_longer, same_last}
 use Rattle.stack_bound.proofs.ReadyFacts.{before_or_from, not_ready_before, unready}
 use Rattle.counter_runs.proofs.Serial.{events, value, values, reaction_from, state_is, ports_are, reacts, puts_values}
 use Rattle.counter_runs.proofs.Past.{from_ready, each_moment}
-use Rattle.counter_runs.proofs.Reactions.{opened, committed, one_more, named, window_is, opened_in_boot, committed_in_boot, opens_in_boot, commits_in_boot, opened_at, committed_at, opens_are, commits_are, value_is, writes_are}
+use Rattle.counter_runs.proofs.Reactions.{opened, committed, named, window_is, opened_in_boot, committed_in_boot, opens_in_boot, commits_in_boot, opened_at, committed_at, opens_are, commits_are, value_is, writes_are}
 use Rattle.counter_runs.proofs.Story.{Place, Rests, Opens, rests, is_opening, is_committing, next, past, Story}
 
 -- Lists of one event's name tell apart how often it opened and committed.

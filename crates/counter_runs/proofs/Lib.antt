@@ -1,4 +1,5 @@
 pub mod Follows
+pub mod Once
 pub mod Past
 pub mod Reactions
 pub mod Serial

@@ -13,22 +13,18 @@ use Rattle.firmware.specs.Maps.{map_of}
 use Rattle.stack_bound.specs.MapNames.{byte_at}
 use Rattle.stack_bound.specs.Counts.{chip_after, takes, ran_at, opened_by, committed_by, opens, commits, port_writes, put_by}
 use Rattle.stack_bound.specs.Follows.{setup_puts}
-use Rattle.stack_bound.proofs.CountFacts.{opens_none, commits_none}
+use Rattle.stack_bound.proofs.CountFacts.{opens_none, commits_none, one_more}
 use Rattle.counter_runs.proofs.Serial.{events, value, writes, write_of}
 use Rattle.counter_runs.proofs.Story.{Place, Opens, is_opening, is_committing, next, past, event_in_map, Story}
 
 -- How often a counter opened, and how often it committed, in the first k steps of these places.
 abbrev pub opened : (ℕ → Place) → ℕ → ℕ
 opened place zero = zero
-opened place (suc k) = if is_opening (place k) then suc (opened place k) else opened place k
+opened place (suc k) = one_more (is_opening (place k)) (opened place k)
 
 abbrev pub committed : (ℕ → Place) → ℕ → ℕ
 committed place zero = zero
-committed place (suc k) = if is_committing (place k) then suc (committed place k) else committed place k
-
--- One more, or as many.
-abbrev pub one_more : Bool → ℕ → ℕ
-one_more b n = if b then suc n else n
+committed place (suc k) = one_more (is_committing (place k)) (committed place k)
 
 -- Whether it opens or commits, by one step.
 one_window : (takes : Bool) (here : Place) (o d : ℕ) → o ≡ one_more (is_committing here) d

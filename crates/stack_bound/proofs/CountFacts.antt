@@ -1,5 +1,5 @@
 -- Counts and lists over the first n steps of a log.
-use Rattle.std.specs.Prelude.{ℕ, zero, suc, ◌+◌, ◌<◌, Bool, false, []}
+use Rattle.std.specs.Prelude.{ℕ, zero, suc, ◌+◌, ◌<◌, Bool, true, false, [], if◌then◌else◌}
 use Rattle.std.proofs.Common.{◌≡◌, refl, arith}
 use Rattle.pic_regs.specs.Bytes.{one_if}
 use Rattle.pic_machine.specs.Boundary.{Step}
@@ -30,3 +30,11 @@ Ledger log e = (n : ℕ) → flag_after log e n + one_if (latches e.source (log 
 pub latched_or_waiting : (log : Log) (e : MapEvent) → Ledger log e → flag_after log e 0 ≡ 0 → (n : ℕ) → latched_count log e n ≡ cleared_count log e n + flag_after log e n
 latched_or_waiting log e ledger first zero = omega (arith, first)
 latched_or_waiting log e ledger first (suc n) = omega (arith, ledger n, latched_or_waiting log e ledger first n)
+
+-- One more, where it holds.
+abbrev pub one_more : Bool → ℕ → ℕ
+one_more b n = if b then suc n else n
+
+pub one_if_more : (b : Bool) (n : ℕ) → n + one_if b ≡ one_more b n
+one_if_more true n = omega arith
+one_if_more false n = omega arith

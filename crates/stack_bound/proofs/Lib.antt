@@ -21,6 +21,7 @@ pub mod ListsSides
 pub mod NamesSides
 pub mod NeverCommits
 pub mod NeverReady
+pub mod OnceFacts
 pub mod QuietSides
 pub mod ReadyFacts
 pub mod ReportsSides
