@@ -79,6 +79,13 @@ module _ (c : Counter) (log : Log) (story : Story c log) (n : ℕ) where
   setups : BootPutsSetups (program_of c) (map_of c) log n
   setups k h before = story.boot_puts k (let is_before = in_boot k h before in omega arith)
 
+-- In a window a front of what the reaction puts is put.
+abbrev PutsFront : Counter → Log → ℕ → List ℕ → Type 0
+PutsFront c log k e =
+    (state : List ℕ) × (reaction : Reaction) × (i : ℕ)
+    × (state_after (program_of c) (commits (map_of c) log k) ≡ Some state) × (react (program_of c) state e ≡ Some reaction)
+    × PutsAre (program_of c) (map_of c) log k (take i (reaction_puts (program_of c) reaction.ports))
+
 module _ (c : Counter) (log : Log) (story : Story c log) (k : ℕ) where
   -- k steps past the ready boundary: no window, or one, by whether the commit is about to come.
   no_window_at : NoWindow (map_of c) log (past story.ready k) → is_committing (story.place k) ≡ false
@@ -127,10 +134,7 @@ module _ (c : Counter) (log : Log) (story : Story c log) (k : ℕ) where
     writes_are c log story k ∙ ap (λ puts. setup_puts (program_of c) ++ puts) (sym (puts_values c is (committed story.place k)) ∙ sym (append-nil (flat_map (reaction_puts (program_of c)) (values c (committed story.place k))))),
   )
 
-  puts_in_window : IsCounter c → (e : List ℕ) → Window (map_of c) log (past story.ready k) e
-      → (state : List ℕ) × (reaction : Reaction) × (i : ℕ)
-      × (state_after (program_of c) (commits (map_of c) log (past story.ready k)) ≡ Some state) × (react (program_of c) state e ≡ Some reaction)
-      × PutsAre (program_of c) (map_of c) log (past story.ready k) (take i (reaction_puts (program_of c) reaction.ports))
+  puts_in_window : IsCounter c → (e : List ℕ) → Window (map_of c) log (past story.ready k) e → PutsFront c log (past story.ready k) e
   puts_in_window is e is_open =
       let v = value c (committed story.place k) in
       (v ∷ [], reaction_from c v, 0, state_at is, ap (react (program_of c) (v ∷ [])) (window_at e is_open).1 ∙ reacts c is v, puts_at is)
@@ -162,10 +166,7 @@ module _ (c : Counter) (log : Log) (is : IsCounter c) (story : Story c log) (n :
   puts r k is_it from to =
       let past_ready : story.ready ≤ k = (let h = ready_from c log story n r is_it in omega arith) in (
         (λ none. from_ready story.ready (λ k. PutsAre (program_of c) (map_of c) log k []) (λ k. puts_at c log story k is) k past_ready),
-        from_ready story.ready (λ k. (e : List ℕ) → Window (map_of c) log k e
-            → (state : List ℕ) × (reaction : Reaction) × (i : ℕ)
-            × (state_after (program_of c) (commits (map_of c) log k) ≡ Some state) × (react (program_of c) state e ≡ Some reaction)
-            × PutsAre (program_of c) (map_of c) log k (take i (reaction_puts (program_of c) reaction.ports))) (λ k. puts_in_window c log story k is) k past_ready,
+        from_ready story.ready (λ k. (e : List ℕ) → Window (map_of c) log k e → PutsFront c log k e) (λ k. puts_in_window c log story k is) k past_ready,
       )
 
 pub story-follows : (c : Counter) (log : Log) → IsCounter c → Story c log → (n : ℕ) → Follows (program_of c) (map_of c) log n

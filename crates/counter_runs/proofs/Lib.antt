@@ -3,5 +3,6 @@ pub mod Once
 pub mod Past
 pub mod Reactions
 pub mod Serial
+pub mod Settled
 pub mod Story
 pub mod Urgent

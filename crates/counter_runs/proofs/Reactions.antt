@@ -26,7 +26,7 @@ abbrev pub committed : (ℕ → Place) → ℕ → ℕ
 committed place zero = zero
 committed place (suc k) = one_more (is_committing (place k)) (committed place k)
 
--- Whether it opens or commits, by one step.
+-- A step keeps this: it has opened once more than it committed where it is about to commit, and else as often.
 one_window : (takes : Bool) (here : Place) (o d : ℕ) → o ≡ one_more (is_committing here) d
     → one_more (is_opening here) o ≡ one_more (is_committing (next takes here)) (one_more (is_committing here) d)
 one_window true Opens o d h = ap suc h
