@@ -156,7 +156,7 @@ pub record Boots (c : Counter) (target : Reg) (s : Spot) (st : Done) (x : Chip) 
   pub word : ℕ
   pub did : step.did ≡ Ran x.pc word
   pub off : interrupts_on step ≡ false
-  pub unchanged : flag c.source step.after.regs ≡ flag c.source step.arrived.regs
+  pub unchanged : (source : Source) → flag source step.after.regs ≡ flag source step.arrived.regs
   pub wrote : step.wrote ≡ written (register_of c target s)
   pub port : step.port ≡ shown_at c target s
   pub done : known c (does s st) step.after ≡ step.after
@@ -185,53 +185,53 @@ BootsFrom c target s st x arrivals word =
     Boots c target s (needs (kind_of c.setup) s st) (before c s st x) (running word (instruction c s) (register_of c target s) arrivals (before c s st x))
 
 jumps : (c : Counter) (target : Reg) (loaded : Loaded) (st : Done) (x : Chip) (arrivals : Sources) (word : ℕ) → BootsFrom c target Jumps (record st { loaded = loaded }) x arrivals word
-jumps c target Nothing st x arrivals word = record { word = word; did = refl; off = refl; unchanged = refl; wrote = refl; port = refl; done = refl; pc = refl; cells = (refl, refl) }
-jumps c target Init st x arrivals word = record { word = word; did = refl; off = refl; unchanged = refl; wrote = refl; port = refl; done = refl; pc = refl; cells = (refl, refl) }
-jumps c target Setup st x arrivals word = record { word = word; did = refl; off = refl; unchanged = refl; wrote = refl; port = refl; done = refl; pc = refl; cells = (refl, refl) }
+jumps c target Nothing st x arrivals word = record { word = word; did = refl; off = refl; unchanged = λ source. refl; wrote = refl; port = refl; done = refl; pc = refl; cells = (refl, refl) }
+jumps c target Init st x arrivals word = record { word = word; did = refl; off = refl; unchanged = λ source. refl; wrote = refl; port = refl; done = refl; pc = refl; cells = (refl, refl) }
+jumps c target Setup st x arrivals word = record { word = word; did = refl; off = refl; unchanged = λ source. refl; wrote = refl; port = refl; done = refl; pc = refl; cells = (refl, refl) }
 
 stores_setup : (c : Counter) (target : Reg) (st : Done) (x : Chip) (arrivals : Sources) (word : ℕ) → is_target target ≡ true → BootsFrom c target StoresSetup st x arrivals word
-stores_setup c (Port n) st x arrivals word e = record { word = word; did = refl; off = refl; unchanged = refl; wrote = refl; port = refl; done = refl; pc = refl; cells = (refl, refl) }
-stores_setup c (Tris n) st x arrivals word e = record { word = word; did = refl; off = refl; unchanged = refl; wrote = refl; port = refl; done = refl; pc = refl; cells = (refl, refl) }
-stores_setup c (Plain a) st x arrivals word e = record { word = word; did = refl; off = refl; unchanged = refl; wrote = refl; port = refl; done = refl; pc = refl; cells = (refl, refl) }
+stores_setup c (Port n) st x arrivals word e = record { word = word; did = refl; off = refl; unchanged = λ source. refl; wrote = refl; port = refl; done = refl; pc = refl; cells = (refl, refl) }
+stores_setup c (Tris n) st x arrivals word e = record { word = word; did = refl; off = refl; unchanged = λ source. refl; wrote = refl; port = refl; done = refl; pc = refl; cells = (refl, refl) }
+stores_setup c (Plain a) st x arrivals word e = record { word = word; did = refl; off = refl; unchanged = λ source. refl; wrote = refl; port = refl; done = refl; pc = refl; cells = (refl, refl) }
 stores_setup c _ st x arrivals word e = absurd cc
 
 enables_high : (source : Source) (c : Counter) (target : Reg) (st : Done) (x : Chip) (arrivals : Sources) (word : ℕ) → is_peripheral source ≡ true
     → BootsFrom (record c { source = source }) target EnablesHigh st x arrivals word
 enables_high T0 c target st x arrivals word e = absurd cc
 enables_high Int c target st x arrivals word e = absurd cc
-enables_high Psp c target st x arrivals word e = record { word = word; did = refl; off = refl; unchanged = refl; wrote = refl; port = refl; done = refl; pc = refl; cells = (refl, refl) }
-enables_high Ad c target st x arrivals word e = record { word = word; did = refl; off = refl; unchanged = refl; wrote = refl; port = refl; done = refl; pc = refl; cells = (refl, refl) }
-enables_high Ssp c target st x arrivals word e = record { word = word; did = refl; off = refl; unchanged = refl; wrote = refl; port = refl; done = refl; pc = refl; cells = (refl, refl) }
-enables_high Ccp1 c target st x arrivals word e = record { word = word; did = refl; off = refl; unchanged = refl; wrote = refl; port = refl; done = refl; pc = refl; cells = (refl, refl) }
-enables_high Tmr2 c target st x arrivals word e = record { word = word; did = refl; off = refl; unchanged = refl; wrote = refl; port = refl; done = refl; pc = refl; cells = (refl, refl) }
-enables_high Tmr1 c target st x arrivals word e = record { word = word; did = refl; off = refl; unchanged = refl; wrote = refl; port = refl; done = refl; pc = refl; cells = (refl, refl) }
-enables_high Ee c target st x arrivals word e = record { word = word; did = refl; off = refl; unchanged = refl; wrote = refl; port = refl; done = refl; pc = refl; cells = (refl, refl) }
-enables_high Bcl c target st x arrivals word e = record { word = word; did = refl; off = refl; unchanged = refl; wrote = refl; port = refl; done = refl; pc = refl; cells = (refl, refl) }
-enables_high Ccp2 c target st x arrivals word e = record { word = word; did = refl; off = refl; unchanged = refl; wrote = refl; port = refl; done = refl; pc = refl; cells = (refl, refl) }
+enables_high Psp c target st x arrivals word e = record { word = word; did = refl; off = refl; unchanged = λ source. refl; wrote = refl; port = refl; done = refl; pc = refl; cells = (refl, refl) }
+enables_high Ad c target st x arrivals word e = record { word = word; did = refl; off = refl; unchanged = λ source. refl; wrote = refl; port = refl; done = refl; pc = refl; cells = (refl, refl) }
+enables_high Ssp c target st x arrivals word e = record { word = word; did = refl; off = refl; unchanged = λ source. refl; wrote = refl; port = refl; done = refl; pc = refl; cells = (refl, refl) }
+enables_high Ccp1 c target st x arrivals word e = record { word = word; did = refl; off = refl; unchanged = λ source. refl; wrote = refl; port = refl; done = refl; pc = refl; cells = (refl, refl) }
+enables_high Tmr2 c target st x arrivals word e = record { word = word; did = refl; off = refl; unchanged = λ source. refl; wrote = refl; port = refl; done = refl; pc = refl; cells = (refl, refl) }
+enables_high Tmr1 c target st x arrivals word e = record { word = word; did = refl; off = refl; unchanged = λ source. refl; wrote = refl; port = refl; done = refl; pc = refl; cells = (refl, refl) }
+enables_high Ee c target st x arrivals word e = record { word = word; did = refl; off = refl; unchanged = λ source. refl; wrote = refl; port = refl; done = refl; pc = refl; cells = (refl, refl) }
+enables_high Bcl c target st x arrivals word e = record { word = word; did = refl; off = refl; unchanged = λ source. refl; wrote = refl; port = refl; done = refl; pc = refl; cells = (refl, refl) }
+enables_high Ccp2 c target st x arrivals word e = record { word = word; did = refl; off = refl; unchanged = λ source. refl; wrote = refl; port = refl; done = refl; pc = refl; cells = (refl, refl) }
 
 enables : (source : Source) (c : Counter) (target : Reg) (st : Done) (x : Chip) (arrivals : Sources) (word : ℕ) → BootsFrom (record c { source = source }) target Enables st x arrivals word
-enables T0 c target st x arrivals word = record { word = word; did = refl; off = refl; unchanged = refl; wrote = refl; port = refl; done = refl; pc = refl; cells = (refl, refl) }
-enables Int c target st x arrivals word = record { word = word; did = refl; off = refl; unchanged = refl; wrote = refl; port = refl; done = refl; pc = refl; cells = (refl, refl) }
-enables Psp c target st x arrivals word = record { word = word; did = refl; off = refl; unchanged = refl; wrote = refl; port = refl; done = refl; pc = refl; cells = (refl, refl) }
-enables Ad c target st x arrivals word = record { word = word; did = refl; off = refl; unchanged = refl; wrote = refl; port = refl; done = refl; pc = refl; cells = (refl, refl) }
-enables Ssp c target st x arrivals word = record { word = word; did = refl; off = refl; unchanged = refl; wrote = refl; port = refl; done = refl; pc = refl; cells = (refl, refl) }
-enables Ccp1 c target st x arrivals word = record { word = word; did = refl; off = refl; unchanged = refl; wrote = refl; port = refl; done = refl; pc = refl; cells = (refl, refl) }
-enables Tmr2 c target st x arrivals word = record { word = word; did = refl; off = refl; unchanged = refl; wrote = refl; port = refl; done = refl; pc = refl; cells = (refl, refl) }
-enables Tmr1 c target st x arrivals word = record { word = word; did = refl; off = refl; unchanged = refl; wrote = refl; port = refl; done = refl; pc = refl; cells = (refl, refl) }
-enables Ee c target st x arrivals word = record { word = word; did = refl; off = refl; unchanged = refl; wrote = refl; port = refl; done = refl; pc = refl; cells = (refl, refl) }
-enables Bcl c target st x arrivals word = record { word = word; did = refl; off = refl; unchanged = refl; wrote = refl; port = refl; done = refl; pc = refl; cells = (refl, refl) }
-enables Ccp2 c target st x arrivals word = record { word = word; did = refl; off = refl; unchanged = refl; wrote = refl; port = refl; done = refl; pc = refl; cells = (refl, refl) }
+enables T0 c target st x arrivals word = record { word = word; did = refl; off = refl; unchanged = λ source. refl; wrote = refl; port = refl; done = refl; pc = refl; cells = (refl, refl) }
+enables Int c target st x arrivals word = record { word = word; did = refl; off = refl; unchanged = λ source. refl; wrote = refl; port = refl; done = refl; pc = refl; cells = (refl, refl) }
+enables Psp c target st x arrivals word = record { word = word; did = refl; off = refl; unchanged = λ source. refl; wrote = refl; port = refl; done = refl; pc = refl; cells = (refl, refl) }
+enables Ad c target st x arrivals word = record { word = word; did = refl; off = refl; unchanged = λ source. refl; wrote = refl; port = refl; done = refl; pc = refl; cells = (refl, refl) }
+enables Ssp c target st x arrivals word = record { word = word; did = refl; off = refl; unchanged = λ source. refl; wrote = refl; port = refl; done = refl; pc = refl; cells = (refl, refl) }
+enables Ccp1 c target st x arrivals word = record { word = word; did = refl; off = refl; unchanged = λ source. refl; wrote = refl; port = refl; done = refl; pc = refl; cells = (refl, refl) }
+enables Tmr2 c target st x arrivals word = record { word = word; did = refl; off = refl; unchanged = λ source. refl; wrote = refl; port = refl; done = refl; pc = refl; cells = (refl, refl) }
+enables Tmr1 c target st x arrivals word = record { word = word; did = refl; off = refl; unchanged = λ source. refl; wrote = refl; port = refl; done = refl; pc = refl; cells = (refl, refl) }
+enables Ee c target st x arrivals word = record { word = word; did = refl; off = refl; unchanged = λ source. refl; wrote = refl; port = refl; done = refl; pc = refl; cells = (refl, refl) }
+enables Bcl c target st x arrivals word = record { word = word; did = refl; off = refl; unchanged = λ source. refl; wrote = refl; port = refl; done = refl; pc = refl; cells = (refl, refl) }
+enables Ccp2 c target st x arrivals word = record { word = word; did = refl; off = refl; unchanged = λ source. refl; wrote = refl; port = refl; done = refl; pc = refl; cells = (refl, refl) }
 
 pub boots : (c : Counter) (target : Reg) (s : Spot) (st : Done) (x : Chip) (arrivals : Sources) (word : ℕ) → fits c target s ≡ true → BootsFrom c target s st x arrivals word
-boots c target LoadsInit st x arrivals word e = record { word = word; did = refl; off = refl; unchanged = refl; wrote = refl; port = refl; done = refl; pc = refl; cells = (refl, refl) }
-boots c target StoresInit st x arrivals word e = record { word = word; did = refl; off = refl; unchanged = refl; wrote = refl; port = refl; done = refl; pc = refl; cells = (refl, refl) }
-boots c target LoadsSetup st x arrivals word e = record { word = word; did = refl; off = refl; unchanged = refl; wrote = refl; port = refl; done = refl; pc = refl; cells = (refl, refl) }
+boots c target LoadsInit st x arrivals word e = record { word = word; did = refl; off = refl; unchanged = λ source. refl; wrote = refl; port = refl; done = refl; pc = refl; cells = (refl, refl) }
+boots c target StoresInit st x arrivals word e = record { word = word; did = refl; off = refl; unchanged = λ source. refl; wrote = refl; port = refl; done = refl; pc = refl; cells = (refl, refl) }
+boots c target LoadsSetup st x arrivals word e = record { word = word; did = refl; off = refl; unchanged = λ source. refl; wrote = refl; port = refl; done = refl; pc = refl; cells = (refl, refl) }
 boots c target StoresSetup st x arrivals word e = stores_setup c target st x arrivals word e
-boots c target ChoosesHigh st x arrivals word e = record { word = word; did = refl; off = refl; unchanged = refl; wrote = refl; port = refl; done = refl; pc = refl; cells = (refl, refl) }
+boots c target ChoosesHigh st x arrivals word e = record { word = word; did = refl; off = refl; unchanged = λ source. refl; wrote = refl; port = refl; done = refl; pc = refl; cells = (refl, refl) }
 boots c target EnablesHigh st x arrivals word e = enables_high c.source c target st x arrivals word e
-boots c target ChoosesLow st x arrivals word e = record { word = word; did = refl; off = refl; unchanged = refl; wrote = refl; port = refl; done = refl; pc = refl; cells = (refl, refl) }
+boots c target ChoosesLow st x arrivals word e = record { word = word; did = refl; off = refl; unchanged = λ source. refl; wrote = refl; port = refl; done = refl; pc = refl; cells = (refl, refl) }
 boots c target Enables st x arrivals word e = enables c.source c target st x arrivals word
-boots c target TurnsOn st x arrivals word e = record { word = word; did = refl; off = refl; unchanged = refl; wrote = refl; port = refl; done = refl; pc = refl; cells = (refl, refl) }
+boots c target TurnsOn st x arrivals word e = record { word = word; did = refl; off = refl; unchanged = λ source. refl; wrote = refl; port = refl; done = refl; pc = refl; cells = (refl, refl) }
 boots c target Jumps st x arrivals word e = jumps c target st.loaded st x arrivals word
 boots c target (At place) st x arrivals word e = absurd cc
 

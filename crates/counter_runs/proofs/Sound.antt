@@ -3,6 +3,7 @@ use Rattle.std.specs.Prelude.{ℕ, zero, suc, ◌+◌, ◌<◌, ◌≤◌, Bool,
 use Rattle.std.proofs.Common.{◌≡◌, refl, sym, ap, subst, ◌∙◌, arith, lit≤, ◌⊎◌, inl, inr}
 use Rattle.std.proofs.lemmas.Bool.{cases_lt, eqb-true}
 use Rattle.pic_isa.specs.Names.{register_at}
+use Rattle.pic_isa.specs.declared.sources.Source.{Source}
 use Rattle.pic_regs.specs.declared.starts.Start.{Start}
 use Rattle.pic_regs.specs.Bytes.{num, bits}
 use Rattle.pic_regs.specs.Map.{Reg, Port, Tris, Plain, within, existing, reg_at}
@@ -17,9 +18,10 @@ use Rattle.firmware.specs.Counters as programs
 use Rattle.firmware.specs.Counters.{IsCounter, IsSetup, setups_of}
 use Rattle.firmware.specs.Layout.{image_of}
 use Rattle.firmware.specs.Maps.{map_of}
-use Rattle.stack_bound.specs.Counts.{chip_after, takes}
+use Rattle.stack_bound.specs.Counts.{chip_after, clears}
 use Rattle.stack_bound.specs.MapNames.{byte_at, is_listed}
-use Rattle.stack_bound.specs.Ready.{ReadyAt, ShowsReady}
+use Rattle.stack_bound.specs.Ready.{ReadyAt, BeforeReady}
+use Rattle.stack_bound.specs.Boots.{FlagsStay}
 use Rattle.stack_bound.specs.Setups.{SetupsStand, last_setup}
 use Rattle.stack_bound.specs.Firmware.{is_stop}
 use Rattle.stack_bound.proofs.Heard.{chip_after_is_of_the_run}
@@ -30,15 +32,10 @@ use Rattle.counter_runs.proofs.BootRuns.{chip_at, log_of, Along, each_step}
 use Rattle.counter_runs.proofs.Writes.{Listed, boot_listed}
 use Rattle.counter_runs.proofs.PlaceSteps.{depth_at}
 use Rattle.counter_runs.proofs.PlaceRuns.{Stays}
-use Rattle.counter_runs.proofs.Told.{boot_steps, below_or_past, place_in, stays, facts, story, story_is_ready}
-
--- The ready boundary of the story is the first.
-pub ready_from : (c : Counter) (log : Log) (s : Story c log) (n r : ℕ) → ReadyAt (map_of c) log n r → s.ready ≤ r
-ready_from c log s n r is_it = elim (cases_lt r s.ready) [ inr more ↦ more | inl less ↦ absurd (not_shown less is_it.shown) ]
-  where
-    not_shown : r < s.ready → ShowsReady (map_of c) log n r → ⊥
-    not_shown less (inl there) = s.not_there r less there.1
-    not_shown less (inr taken) = let e : false ≡ true = sym (s.boot_takes r less) ∙ taken.1 in cc
+use Rattle.counter_runs.proofs.PlaceFacts.{not_cleared}
+use Rattle.counter_runs.proofs.Follows.{ready_from, shown_at}
+use Rattle.counter_runs.proofs.Past.{each_moment, from_ready}
+use Rattle.counter_runs.proofs.Told.{boot_steps, place_in, stays, facts, story, story_is_ready}
 
 -- The byte of the only setup that names an address.
 its_setup : (s : SetupAt) (a byte : ℕ) → IsSetup s → last_setup (setups_of (Some s)) a ≡ Some byte → (s.address ≡ a) × (s.byte ≡ byte)
@@ -87,35 +84,37 @@ module _ (c : Counter) (fine : IsCounter c) (start : Start) (list : List Sources
   same n = chip_after_is_of_the_run (program_of (image_of c)) (power_on start) (arrivals_of list) n
 
   pub goes_on : (k : ℕ) → is_stop (the_log k).did ≡ false
-  goes_on k = elim (below_or_past (boot_steps c) k) [
-    | inl less ↦ ap is_stop (way k less).step.did
-    | inr more ↦ subst (λ n. is_stop (the_log n).did ≡ false) more.1 (facts c fine start list more.0).goes_on
-  ]
+  goes_on = each_moment (boot_steps c) (λ n. is_stop (the_log n).did ≡ false) (λ n less. ap is_stop (way n less).step.did) (λ k. (facts c fine start list k).goes_on)
 
   pub writes_listed : (k : ℕ) → Listed c (the_log k).wrote
-  writes_listed k = elim (below_or_past (boot_steps c) k) [
-    | inl less ↦ subst (Listed c) (sym (way k less).step.wrote) (boot_listed c target (way k less).spot is_aimed (way k less).there)
-    | inr more ↦ subst (λ n. Listed c (the_log n).wrote) more.1 (facts c fine start list more.0).listed
-  ]
+  writes_listed = each_moment (boot_steps c) (λ n. Listed c (the_log n).wrote)
+      (λ n less. subst (Listed c) (sym (way n less).step.wrote) (boot_listed c target (way n less).spot is_aimed (way n less).there))
+      (λ k. (facts c fine start list k).listed)
 
   shallow_by : (n : ℕ) (d : ℕ) → d ≡ (chip_at c start list n).depth → d ≤ 1 → (chip_after the_log n).depth ≤ 1
   shallow_by n d e small = let its : d ≡ (chip_after the_log n).depth = e ∙ ap (λ (y : Chip). y.depth) (sym (same n)) in omega (arith, its, small)
 
   pub shallow : (k : ℕ) → (chip_after the_log k).depth ≤ 1
-  shallow k = elim (below_or_past (boot_steps c) k) [
-    | inl less ↦ shallow_by k 0 (ap (λ (y : Chip). y.depth) (way k less).here.known) (lit≤ tt)
-    | inr more ↦ subst (λ n. (chip_after the_log n).depth ≤ 1) more.1
-        (shallow_by (past (boot_steps c) more.0) (depth_at (place_in the_log (boot_steps c) more.0)) (ap (λ (y : Chip). y.depth) (stays c fine start list more.0).held) (at_most_1 (place_in the_log (boot_steps c) more.0)))
-  ]
+  shallow = each_moment (boot_steps c) (λ n. (chip_after the_log n).depth ≤ 1)
+      (λ n less. shallow_by n 0 (ap (λ (y : Chip). y.depth) (way n less).here.known) (lit≤ tt))
+      (λ k. shallow_by (past (boot_steps c) k) (depth_at (place_in the_log (boot_steps c) k)) (ap (λ (y : Chip). y.depth) (stays c fine start list k).held) (at_most_1 (place_in the_log (boot_steps c) k)))
 
   setup_stands : (k a byte : ℕ) → boot_steps c ≤ k → within 5 9 a ≡ false → last_setup (setups_of c.setup) a ≡ Some byte → byte_at (chip_after the_log k) a ≡ num (existing (reg_at a) (bits byte))
-  setup_stands k a byte later other e = elim (below_or_past (boot_steps c) k) [
-    | inl less ↦ absurd (omega (arith, less, later))
-    | inr more ↦ ap (λ y. byte_at y a) (same k)
-        ∙ setup_reads c.setup target (chip_at c start list k).regs a byte fine.setup is_aimed (subst (λ n. Stands target (byte_of c.setup) (chip_at c start list n).regs) more.1 (stays c fine start list more.0).stands) other e
-  ]
+  setup_stands k a byte later other e =
+      let stood : Stands target (byte_of c.setup) (chip_at c start list k).regs = from_ready (boot_steps c) (λ n. Stands target (byte_of c.setup) (chip_at c start list n).regs) (λ j. (stays c fine start list j).stands) k later in
+      ap (λ y. byte_at y a) (same k) ∙ setup_reads c.setup target (chip_at c start list k).regs a byte fine.setup is_aimed stood other e
 
   pub setups_stand : (n : ℕ) → SetupsStand (programs.program_of c) (map_of c) the_log n
   setups_stand n r k a byte is_it from to other e =
       let early : boot_steps c ≤ r = rw (← story_is_ready c fine start list) (ready_from c the_log (story c fine start list) n r is_it) in
       setup_stands k a byte (omega (arith, early, from)) other e
+
+  flags_by : (n k : ℕ) (source : Source) → k < n → BeforeReady (map_of c) the_log n k → (k < boot_steps c) ⊎ (boot_steps c ≤ k) → clears source (the_log k) ≡ false
+  flags_by n k source h before (inl less) = not_cleared source (the_log k) ((way k less).step.unchanged source)
+  flags_by n k source h before (inr more) =
+      let its : Story c the_log = story c fine start list in
+      let is : its.ready ≡ boot_steps c = story_is_ready c fine start list in
+      absurd (before its.ready (omega (arith, is, more)) (shown_at c the_log its n (omega (arith, is, more, h))))
+
+  pub flags_stay : (n : ℕ) → FlagsStay (map_of c) the_log n
+  flags_stay n k source h before = flags_by n k source h before (cases_lt k (boot_steps c))

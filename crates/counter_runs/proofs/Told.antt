@@ -26,6 +26,7 @@ use Rattle.stack_bound.specs.Counts.{chip_after, is_taking, is_run_at, takes, ra
 use Rattle.stack_bound.specs.MapNames.{byte_at}
 use Rattle.stack_bound.specs.Follows.{setup_puts}
 use Rattle.stack_bound.proofs.Heard.{chip_after_is_of_the_run}
+use Rattle.counter_runs.proofs.Past.{each_moment}
 use Rattle.counter_runs.proofs.Story.{Place, Rests, next, past, rests, value_after, puts_at, event_in_map, is_opening, is_committing, is_clearing, Story}
 use Rattle.counter_runs.proofs.Spots.{Kind, NoSetup, LowSetup, HighSetup, running_order, kind_of, byte_of, ready_at, ready_is}
 use Rattle.counter_runs.proofs.Targets.{Aimed, aimed, has_setup, Stands}
@@ -72,15 +73,6 @@ all_put (Some s) c =
 front : (puts : List PortWrite) (is_put : Bool) → (i : ℕ) × (cond is_put puts [] ≡ take i puts)
 front puts false = (0, refl)
 front puts true = (length puts, sym (take-length puts))
-
--- Steps past the ready boundary, as a sum.
-pub past_is : (ready k : ℕ) → past ready k ≡ ready + k
-past_is ready zero = (let e : ready ≡ ready + 0 = omega arith in e)
-past_is ready (suc k) = ap suc (past_is ready k) ∙ (let e : suc (ready + k) ≡ ready + suc k = omega arith in e)
-
--- Each number of steps is below the ready boundary or so many past it.
-pub below_or_past : (ready n : ℕ) → (n < ready) ⊎ ((k : ℕ) × (past ready k ≡ n))
-below_or_past ready n = elim (cases_lt n ready) [ inl less ↦ inl less | inr more ↦ inr (n - ready, past_is ready (n - ready) ∙ (let e : ready + (n - ready) ≡ n = omega (arith, more) in e)) ]
 
 flag_first : (source : Source) (start : Start) → flag source (registers_on start) ≡ false
 flag_first T0 start = refl
@@ -173,10 +165,9 @@ module _ (c : Counter) (fine : IsCounter c) (start : Start) (list : List Sources
   ledger_of_run n e = ap (λ (y : Chip). one_if (flag c.source y.regs) + one_if (latches c.source (the_log n))) (same n) ∙ e
 
   ledger : (n : ℕ) → Ledger n
-  ledger n = elim (below_or_past ready n) [
-    | inl less ↦ ledger_of_run n (ledger_of (program_of (image_of c)) (arrivals_of list n) (x n) c.source (way n less).step.unchanged)
-    | inr more ↦ subst Ledger more.1 (ledger_of_run (past ready more.0) (facts more.0).ledger)
-  ]
+  ledger = each_moment ready Ledger
+      (λ n less. ledger_of_run n (ledger_of (program_of (image_of c)) (arrivals_of list n) (x n) c.source ((way n less).step.unchanged c.source)))
+      (λ k. ledger_of_run (past ready k) (facts k).ledger)
 
   pc_is : (place : Place) (y : Chip) → Stays c target place y → rests place ≡ true → y.pc ≡ ready_address c
   pc_is Rests y h e = h.pc
@@ -191,7 +182,7 @@ module _ (c : Counter) (fine : IsCounter c) (start : Start) (list : List Sources
     boot_is_off = λ k h. (way k h).step.off;
     boot_opens = λ k h. ap (is_run_at open_address) (way k h).step.did ∙ ap (λ a. a == 7) (way k h).here.pc ∙ (plain k h).1;
     boot_commits = λ k h. ap (is_run_at commit_address) (way k h).step.did ∙ ap (λ a. a == 8) (way k h).here.pc ∙ (plain k h).2;
-    boot_clears = λ k h. not_cleared c.source (the_log k) (way k h).step.unchanged;
+    boot_clears = λ k h. not_cleared c.source (the_log k) ((way k h).step.unchanged c.source);
     boot_puts = λ k h. boot_puts_by k h (cases_lt k ready);
     puts_at_ready = end.puts ∙ all_put c.setup c;
     value_at_ready = first_value;

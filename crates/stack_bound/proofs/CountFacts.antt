@@ -1,41 +1,40 @@
--- Counts over a log, and lists of what opened and committed, by one step more, where a map has one event.
-use Rattle.std.specs.Prelude.{ℕ, zero, suc, ◌+◌, Bool, true, false, List, [], ◌∷◌, ◌++◌, map, filter, cond, count_by}
-use Rattle.std.specs.Str.{bytes_eq}
-use Rattle.std.proofs.Common.{◌≡◌, refl, sym, ap, ◌∙◌, arith}
-use Rattle.std.proofs.lemmas.List.Sums.{sum_by-append}
-use Rattle.std.proofs.lemmas.Slice.Eq.{bytes_eq-Decides}
+-- Counts and lists over the first n steps of a log.
+use Rattle.std.specs.Prelude.{ℕ, zero, suc, ◌+◌, ◌<◌, Bool, true, false, [], if◌then◌else◌}
+use Rattle.std.proofs.Common.{◌≡◌, refl, arith}
 use Rattle.pic_regs.specs.Bytes.{one_if}
-use Rattle.pic_regs.specs.Registers.{flag}
 use Rattle.pic_machine.specs.Boundary.{Step}
 use Rattle.pic_machine.specs.Run.{Log}
 use Rattle.map_file.specs.declared.maps.MapEvent.{MapEvent}
 use Rattle.map_file.specs.declared.maps.Map.{Map}
-use Rattle.stack_bound.specs.Counts.{chip_after, ran_at, latches, clears, latched_count, cleared_count, flag_after, opened_by, committed_by, commits, commit_count}
+use Rattle.stack_bound.specs.Counts.{count, opened_by, committed_by, opens, commits, latches, clears, latched_count, cleared_count, flag_after}
 
--- What a step opens, and what it commits.
-one_or_none : (name : List ℕ) (e : MapEvent) (test : MapEvent → Bool) → map (λ (e : MapEvent). e.name) (filter test (e ∷ [])) ≡ cond (test e) (e.name ∷ []) []
-one_or_none name e test = elim (test e) as (λ b. map (λ (e : MapEvent). e.name) (cond b (e ∷ []) []) ≡ cond b (e.name ∷ []) []) [ true ↦ refl | false ↦ refl ]
+-- Where no step passes a test, the count is 0.
+pub count_none : (log : Log) (test : Step → Bool) (n : ℕ) → ((k : ℕ) → k < n → test (log k) ≡ false) → count log test n ≡ 0
+count_none log test zero none = refl
+count_none log test (suc n) none = rw (count_none log test n (λ k h. none k (omega arith)), none n (omega arith)) refl
 
-pub opened_one : (m : Map) (e : MapEvent) (step : Step) → m.events ≡ e ∷ [] → opened_by m step ≡ cond (ran_at e.«open» step) (e.name ∷ []) []
-opened_one m e step one = ap (λ events. map (λ (e : MapEvent). e.name) (filter (λ e. ran_at e.«open» step) events)) one ∙ one_or_none e.name e (λ e. ran_at e.«open» step)
+-- Where no step opens or commits, the lists are empty.
+pub opens_none : (m : Map) (log : Log) (n : ℕ) → ((k : ℕ) → k < n → opened_by m (log k) ≡ []) → opens m log n ≡ []
+opens_none m log zero none = refl
+opens_none m log (suc n) none = rw (opens_none m log n (λ k h. none k (omega arith)), none n (omega arith)) refl
 
-pub committed_one : (m : Map) (e : MapEvent) (step : Step) → m.events ≡ e ∷ [] → committed_by m step ≡ cond (ran_at e.commit step) (e.name ∷ []) []
-committed_one m e step one = ap (λ events. map (λ (e : MapEvent). e.name) (filter (λ e. ran_at e.commit step) events)) one ∙ one_or_none e.name e (λ e. ran_at e.commit step)
+pub commits_none : (m : Map) (log : Log) (n : ℕ) → ((k : ℕ) → k < n → committed_by m (log k) ≡ []) → commits m log n ≡ []
+commits_none m log zero none = refl
+commits_none m log (suc n) none = rw (commits_none m log n (λ k h. none k (omega arith)), none n (omega arith)) refl
 
-counted : (name : List ℕ) (ran : Bool) → count_by (bytes_eq name) (cond ran (name ∷ []) []) ≡ one_if ran
-counted name true = let same : bytes_eq name name ≡ true = (bytes_eq-Decides name name).1 refl in ap (λ b. 0 + cond b 1 0) same
-counted name false = refl
+-- At each step a latch sets an event's flag and a clearing clears it, and nothing else changes it.
+abbrev pub Ledger : Log → MapEvent → Type 0
+Ledger log e = (n : ℕ) → flag_after log e n + one_if (latches e.source (log n)) ≡ flag_after log e (suc n) + one_if (clears e.source (log n))
 
-pub commit_count_one : (m : Map) (log : Log) (e : MapEvent) (n : ℕ) → m.events ≡ e ∷ [] → commit_count m log e (suc n) ≡ commit_count m log e n + one_if (ran_at e.commit (log n))
-commit_count_one m log e n one =
-    sum_by-append (λ name. cond (bytes_eq e.name name) 1 0) (commits m log n) (committed_by m (log n))
-    ∙ ap (λ names. commit_count m log e n + count_by (bytes_eq e.name) names) (committed_one m e (log n) one)
-    ∙ ap (λ k. commit_count m log e n + k) (counted e.name (ran_at e.commit (log n)))
+-- So each latch was cleared or waits in the flag, which was clear at first.
+pub latched_or_waiting : (log : Log) (e : MapEvent) → Ledger log e → flag_after log e 0 ≡ 0 → (n : ℕ) → latched_count log e n ≡ cleared_count log e n + flag_after log e n
+latched_or_waiting log e ledger first zero = omega (arith, first)
+latched_or_waiting log e ledger first (suc n) = omega (arith, ledger n, latched_or_waiting log e ledger first n)
 
--- Where a flag is clear at first, and each step's latch sets it, its clearing clears it and nothing else changes it, each latch
--- was cleared or waits in the flag.
-pub balanced : (log : Log) (e : MapEvent) → flag e.source (chip_after log 0).regs ≡ false
-    → ((n : ℕ) → flag_after log e n + one_if (latches e.source (log n)) ≡ flag_after log e (suc n) + one_if (clears e.source (log n)))
-    → (n : ℕ) → latched_count log e n ≡ cleared_count log e n + flag_after log e n
-balanced log e clear ledger zero = ap (λ b. 0 + one_if b) (sym clear)
-balanced log e clear ledger (suc n) = omega (arith, balanced log e clear ledger n, ledger n)
+-- One more, where it holds.
+abbrev pub one_more : Bool → ℕ → ℕ
+one_more b n = if b then suc n else n
+
+pub one_if_more : (b : Bool) (n : ℕ) → n + one_if b ≡ one_more b n
+one_if_more true n = omega arith
+one_if_more false n = omega arith
