@@ -3,3 +3,4 @@ pub mod Chip
 pub mod Exec
 pub mod Results
 pub mod Run
+pub mod State

@@ -5,6 +5,19 @@
 //! only the types of a step's report. The simulator and the promises of the firmware stand on this crate.
 #![tactic(auto)]
 
+mod bit_arms;
+mod constant_arms;
+mod control_arms;
+mod cpu;
+mod destination;
+mod effects;
+mod exec;
+mod operands;
+mod outcomes;
+mod register_arms;
+mod results;
+mod running;
+mod stack;
 mod steps;
 
 pub use steps::{Did, PortWrite, Stepped, Why};
