@@ -5,6 +5,7 @@
 //! only the types of a step's report. The simulator and the promises of the firmware stand on this crate.
 #![tactic(auto)]
 
+mod memory;
 mod steps;
 
 pub use steps::{Did, PortWrite, Stepped, Why};
