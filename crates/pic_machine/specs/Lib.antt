@@ -4,3 +4,4 @@ pub mod Exec
 pub mod Memory
 pub mod Results
 pub mod Run
+pub mod State

@@ -5,7 +5,23 @@
 //! only the types of a step's report. The simulator and the promises of the firmware stand on this crate.
 #![tactic(auto)]
 
+mod bit_arms;
+mod chip;
+mod constant_arms;
+mod control_arms;
+mod cpu;
+mod destination;
+mod effects;
+mod exec;
 mod memory;
+mod operands;
+mod outcomes;
+mod register_arms;
+mod results;
+mod running;
+mod stack;
 mod steps;
+mod turns;
 
+pub use chip::Chip;
 pub use steps::{Did, PortWrite, Stepped, Why};
