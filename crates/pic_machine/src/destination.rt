@@ -1,6 +1,8 @@
 ghost use Rattle.std.specs.Prelude.{◌≡◌, Some};
 ghost use Rattle.pic_regs.specs.Bytes.{bits};
+ghost use Rattle.pic_regs.specs.Map.{Status};
 ghost use Rattle.pic_regs.specs.Places.{IsPlace, reg_of};
+ghost use Rattle.pic_regs.specs.Registers.{write};
 ghost use Rattle.pic_machine.specs.Chip.{led};
 ghost use Rattle.pic_machine.specs.Results.{flagged, gives, leaves, shown, status_byte, stored, written};
 ghost use Rattle.pic_machine.specs.State.{cpu_of, done_of, flags_of, outcome_of};
@@ -79,19 +81,37 @@ impl Cpu {
         self.pc = 256 * u16::from(self.regs.read_place(Place::Pclath)) + u16::from(byte);
     }
 
+    // Stores the byte of a result in STATUS, as far as it goes there.
+    fn store_status(&mut self, outcome: Outcome)
+        ensures { let status = (cpu_of self.old).regs.status in
+            cpu_of self.new
+            ≡ record (cpu_of self.old) {
+              regs = write Status (status_byte (flags_of outcome.flags) (bits outcome.byte) status) (cpu_of self.old).regs;
+            } }
+    {
+        let byte = byte_for_status(outcome.flags, outcome.byte, self.regs.status());
+        self.regs.write_place(Place::Status, byte);
+    }
+
+    // Stores the byte of a result in a register, whose flags are still to come.
+    fn store_byte(&mut self, place: Place, outcome: Outcome)
+        requires { IsPlace place }
+        ensures { record (cpu_of self.new) { regs = flagged (flags_of outcome.flags) (cpu_of self.new).regs }
+            ≡ stored (reg_of place) (outcome_of outcome) (cpu_of self.old) }
+    {
+        match place {
+            Place::Pcl => self.lead(outcome.byte),
+            Place::Status => self.store_status(outcome),
+            _ => self.regs.write_place(place, outcome.byte),
+        }
+    }
+
     // Stores a result in a register, and then the flags.
     fn store(&mut self, place: Place, outcome: Outcome)
         requires { IsPlace place }
         ensures { cpu_of self.new ≡ stored (reg_of place) (outcome_of outcome) (cpu_of self.old) }
     {
-        match place {
-            Place::Pcl => self.lead(outcome.byte),
-            Place::Status => {
-                let byte = byte_for_status(outcome.flags, outcome.byte, self.regs.status());
-                self.regs.write_place(place, byte);
-            }
-            _ => self.regs.write_place(place, outcome.byte),
-        }
+        self.store_byte(place, outcome);
         self.set_flags(outcome.flags);
     }
 

@@ -79,18 +79,11 @@ mod tests {
         assert!(rt;
             cpu.exec(&Instr::Swapf {
                 f: 0x7D,
-                d: Dest::F
-            })
-            .is_some()
-        );
-        assert!(rt;
-            cpu.exec(&Instr::Swapf {
-                f: 0x7D,
                 d: Dest::W
             })
             .is_some()
         );
         assert!(rt; cpu.exec(&Instr::Movwf { f }).is_some() && cpu.regs().status() == 0x1D);
-        assert!(rt; cpu.exec(&Instr::Sleep).is_none() && cpu.pc() == 5);
+        assert!(rt; cpu.exec(&Instr::Sleep).is_none() && cpu.pc() == 4);
     }
 }

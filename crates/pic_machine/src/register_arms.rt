@@ -80,11 +80,8 @@ impl Cpu {
         ensures { exec (Instr.Rlf f d) (cpu_of self.old) ≡ done_of (Some result) (cpu_of self.new) }
     {
         let operand = self.operand(f);
-        self.give(
-            d,
-            operand.place,
-            rotated_left(self.regs.carry(), operand.byte),
-        )
+        let carry = self.regs.carry();
+        self.give(d, operand.place, rotated_left(carry, operand.byte))
     }
 
     // f right through C: C.
@@ -93,11 +90,8 @@ impl Cpu {
         ensures { exec (Instr.Rrf f d) (cpu_of self.old) ≡ done_of (Some result) (cpu_of self.new) }
     {
         let operand = self.operand(f);
-        self.give(
-            d,
-            operand.place,
-            rotated_right(self.regs.carry(), operand.byte),
-        )
+        let carry = self.regs.carry();
+        self.give(d, operand.place, rotated_right(carry, operand.byte))
     }
 
     // f - W: C, DC, Z.

@@ -1,0 +1,23 @@
+use Rattle.std.proofs.Common.{◌≡◌, ℕ, Some, None, sym, ◌<◌, Bool, true, false, List, length, get_or, set, ◌==◌, if◌then◌else◌, refl, ap, ◌∙◌, get_or-set_same, get_or-set_other}
+use Rattle.std.proofs.Math.Path.{fun_ext}
+use Rattle.std.proofs.lemmas.Bool.{eqb-true, eqb-false}
+use Rattle.pic_regs.specs.Bytes.{updated}
+use Rattle.pic_machine.specs.declared.effects.Effect.{Effect}
+use Rattle.pic_machine.specs.Chip.{Chip}
+use Rattle.pic_machine.specs.Results.{leaves}
+use Rattle.pic_machine.specs.State.{done_of}
+
+-- What the code reports of an instruction with no register as its destination.
+pub leaves-done : (effect : Effect) (c d : Chip) → effect ≡ record { wrote = None; port = None } → d ≡ c → leaves c ≡ done_of (Some effect) d
+leaves-done effect c d nothing same = λ j. done_of (Some (sym nothing j)) (sym same j)
+
+-- A write to the return stack's array is one to the memory that it is.
+abbrev places : List ℕ → ℕ → ℕ
+places xs place = get_or xs place 0
+
+pub stack-set : (xs : List ℕ) (at place value : ℕ) → at < length xs → at ≡ place → places (set xs at value) ≡ updated (places xs) place value
+stack-set xs at place value inside here = fun_ext (λ other. by_test other (other == at) refl) ∙ ap (λ n. updated (places xs) n value) here
+  where
+    by_test : (other : ℕ) (test : Bool) → (other == at) ≡ test → places (set xs at value) other ≡ (if test then value else places xs other)
+    by_test other true e = ap (λ k. get_or (set xs at value) k 0) (eqb-true other at e) ∙ get_or-set_same xs at value 0 inside
+    by_test other false e = get_or-set_other xs at other value 0 (eqb-false other at e)
