@@ -25,3 +25,6 @@ mod turns;
 
 pub use chip::Chip;
 pub use steps::{Did, PortWrite, Stepped, Why};
+
+#[cfg(test)]
+mod tests;
