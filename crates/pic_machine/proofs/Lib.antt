@@ -5,6 +5,7 @@ pub mod ControlExamples
 pub mod HalfKnown
 pub mod LoadFacts
 pub mod RegisterExamples
+pub mod RisingWords
 pub mod RunExamples
 pub mod Settings
 pub mod StateFacts

@@ -7,14 +7,7 @@ use Rattle.hex_file.specs.declared.images.Word.{Word}
 use Rattle.hex_file.specs.Written.{RisesFrom}
 use Rattle.pic_machine.specs.Run.{word_at}
 use Rattle.pic_machine.specs.declared.memory.Cell.{Cell}
-
--- A word among words that rise.
-pub risen : (low : ℕ) (ws : List Word) → RisesFrom low ws → (i : ℕ) (d : Word) → i < length ws → (low ≤ (get_or ws i d).address) × ((get_or ws i d).address < 8192) × ((get_or ws i d).word < 0x4000)
-risen low [] rises i d inside = absurd (omega (arith, inside))
-risen low (w ∷ ws) rises zero d inside = (rises.0, rises.1, rises.2)
-risen low (w ∷ ws) rises (suc i) d inside =
-    let later = risen (w.address + 1) ws rises.3 i d (omega (arith, inside)) in
-    (omega (arith, rises.0, later.0), later.1, later.2)
+use Rattle.pic_machine.proofs.RisingWords.{risen}
 
 -- Numbers that differ aren't found equal.
 no_eqb : (a b : ℕ) → a ≢ b → (a == b) ≡ false
