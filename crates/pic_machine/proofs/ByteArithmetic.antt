@@ -1,5 +1,5 @@
 -- What the code computes with bytes, in numbers, and what the definitions say of their bits.
-use Rattle.std.proofs.Common.{◌≡◌, ℕ, ◌+◌, ◌-◌, ◌*◌, ◌/◌, ◌%◌, ◌<◌, ◌≤◌, Bool, true, false, ◌==◌, nat_le, nat_lt, refl, ap, sym, ◌∙◌, arith}
+use Rattle.std.proofs.Common.{◌≡◌, ℕ, ◌+◌, ◌-◌, ◌*◌, ◌/◌, ◌%◌, ◌<◌, ◌≤◌, Bool, true, false, ◌==◌, nat_le, nat_lt, refl, ap, ◌∙◌, arith}
 use mir.Val.{bool_byte}
 use Rattle.pic_regs.specs.Bytes.{Byte, num, bits, one_if, is_zero}
 use Rattle.pic_regs.proofs.ByteFacts.{one_if-small, bit-num}

@@ -18,8 +18,8 @@ impl Cpu {
         requires { f < 128 }
         ensures { exec (Instr.Clrf f) (cpu_of self.old) ≡ done_of (Some result) (cpu_of self.new) }
     {
-        let operand = self.operand(f);
-        self.give_register(operand.place, tested(0x00))
+        let place = self.register(f);
+        self.give_register(place, tested(0x00))
     }
 
     // f = W.
@@ -27,8 +27,8 @@ impl Cpu {
         requires { f < 128 }
         ensures { exec (Instr.Movwf f) (cpu_of self.old) ≡ done_of (Some result) (cpu_of self.new) }
     {
-        let operand = self.operand(f);
-        self.give_register(operand.place, just(self.w))
+        let place = self.register(f);
+        self.give_register(place, just(self.w))
     }
 
     // Leaves a count, and goes past the next instruction where it is 0. A count written to PCL leads away all

@@ -49,8 +49,18 @@ impl Cpu {
         }
     }
 
-    // Goes to the next address, and says which register the instruction's seven bits name and what it reads
-    // there.
+    // Goes to the next address, and says which register the instruction's seven bits name.
+    pub(crate) fn register(&mut self, f: u8) -> Place
+        requires { f < 128 }
+        ensures chip { cpu_of self.new ≡ advanced (cpu_of self.old) }
+        ensures place { reg_of result ≡ named f (cpu_of self.old).regs }
+        ensures in_range { IsPlace result }
+    {
+        self.advance();
+        self.named(f)
+    }
+
+    // The same, with what the instruction reads there.
     pub(crate) fn operand(&mut self, f: u8) -> Operand
         requires { f < 128 }
         ensures chip { cpu_of self.new ≡ advanced (cpu_of self.old) }
@@ -58,8 +68,7 @@ impl Cpu {
         ensures in_range { IsPlace result.place }
         ensures byte { bits result.byte ≡ got (named f (cpu_of self.old).regs) (advanced (cpu_of self.old)) }
     {
-        self.advance();
-        let place = self.named(f);
+        let place = self.register(f);
         Operand {
             place,
             byte: self.got(place),

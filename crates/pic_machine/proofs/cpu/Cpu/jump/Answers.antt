@@ -1,6 +1,5 @@
 use Rattle.std.proofs.Common.{◌+◌, ap}
 use Rattle.pic_machine.specs.State.{cpu_of}
-use Rattle.pic_machine.specs.Chip.{Chip}
 use Rattle.pic_machine.proofs.cpu.Cpu.jump.Goals as goal
 
 pub returns : goal.returns

@@ -1,4 +1,3 @@
-use Rattle.std.proofs.Common.{zero}
 use Rattle.pic_machine.specs.Run.{power_on}
 use Rattle.pic_machine.proofs.StateFacts.{places-empty}
 use Rattle.pic_machine.proofs.cpu.Cpu.power_on.Goals as goal
