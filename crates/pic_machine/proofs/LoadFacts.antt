@@ -32,6 +32,7 @@ word_at-more low (w ∷ ws) rises (suc i) d inside k =
   where
     x : Word
     x = get_or ws i d
+
     by_test : (test : Bool) → (w.address == k) ≡ test → word_at (take (suc i) ws) k ≡ (if x.address == k then x.word else word_at (take i ws) k)
         → elim test [ true ↦ w.word | false ↦ word_at (take (suc i) ws) k ]
         ≡ (if x.address == k then x.word else elim test [ true ↦ w.word | false ↦ word_at (take i ws) k ])
@@ -67,10 +68,13 @@ written-more ws cells at i cell d rises inside size here same before k = by_test
   where
     x : Word
     x = get_or ws i d
+
     more : word_at (take (i + 1) ws) k ≡ (if x.address == k then x.word else word_at (take i ws) k)
     more = ap (λ n. word_at (take n ws) k) (add-one i) ∙ word_at-more 0 ws rises i d inside k
+
     mapped : get_or (words (set cells at cell)) k 0x3FFF ≡ get_or (set (words cells) at cell.word) k 0x3FFF
     mapped = ap (λ xs. get_or xs k 0x3FFF) (map-set (λ (c : Cell). c.word) cells at cell)
+
     by_test : (test : Bool) → (x.address == k) ≡ test → get_or (words (set cells at cell)) k 0x3FFF ≡ word_at (take (i + 1) ws) k
     by_test true e =
         let k_is : x.address ≡ k = eqb-true x.address k e in

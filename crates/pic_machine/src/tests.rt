@@ -132,7 +132,13 @@ fn writes_a_port_and_reads_its_pins(rt: HostRuntime) -> Result<(), Fail> {
     // MOVWF PORTB; MOVF PORTB,W. All pins are inputs.
     let mut chip = started(rt.alloc(), &[0x0086, 0x0806], 0x5A)?;
     chip.set_pins(1, 0x3C);
-    assert!(rt; chip.step(0x000).port == Some(PortWrite { port: 1, byte: 0x5A }));
+    assert!(rt;
+        chip.step(0x000).port
+            == Some(PortWrite {
+                port: 1,
+                byte: 0x5A
+            })
+    );
     let _ = chip.step(0x000);
     assert!(rt; chip.w() == 0x3C);
     // Past the program stands 3FFFh, which is ADDLW FFh.
