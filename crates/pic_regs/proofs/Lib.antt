@@ -7,3 +7,4 @@ pub mod PowerFacts
 pub mod RamFacts
 pub mod RegisterExamples
 pub mod SetFacts
+pub mod SetupFacts
