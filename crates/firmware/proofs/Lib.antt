@@ -1,5 +1,11 @@
 pub mod BoundFacts
 pub mod CodeFacts
+pub mod FirmwareOf
+pub mod ListedFacts
+pub mod ListsRightlyOf
 pub mod MapFacts
+pub mod NamesOf
 pub mod OneProgram
 pub mod RangeFacts
+pub mod ReportsOf
+pub mod WrittenFacts

@@ -30,7 +30,7 @@ apart front r address differs =
     with_last front r address ∙ ap (λ b. front ++ cond b (record { from = r.from; to = address } ∷ []) (r ∷ single address ∷ [])) other ∙ sym (append_assoc front (r ∷ []) (single address ∷ []))
 
 -- The ranges rise below a bound: the first from low on, at least one address between two, and the last ends below high.
-abbrev RiseBelow : ℕ → List Range → ℕ → Type 0
+abbrev pub RiseBelow : ℕ → List Range → ℕ → Type 0
 RiseBelow low [] high = low ≤ high + 1
 RiseBelow low (r ∷ rs) high = (low ≤ r.from) × (r.from ≤ r.to) × (r.to < high) × RiseBelow (r.to + 2) rs high
 
@@ -46,7 +46,7 @@ rise_with low (r ∷ []) high room h = elim (cases_eq (r.to + 1) high) [
 ]
 rise_with low (r ∷ s ∷ rs) high room h = (h.0, h.1, omega (arith, h.2), rise_with (r.to + 2) (s ∷ rs) high (omega (arith, h.3.0, h.3.1, h.3.2)) h.3)
 
-rise_below : (n : ℕ) (test : ℕ → Bool) → RiseBelow 0 (ranges_below n test) n
+pub rise_below : (n : ℕ) (test : ℕ → Bool) → RiseBelow 0 (ranges_below n test) n
 unfolding ranges_below
 rise_below zero test = omega arith
 rise_below (suc n) test =

@@ -33,7 +33,7 @@ source_called_back Ccp2 = refl
 pub one_source : (s t : Source) → source_name s ≡ source_name t → s ≡ t
 one_source s t e = let found : Some s ≡ Some t = sym (source_called_back s) ∙ ap source_called e ∙ source_called_back t in cc found
 
-port_called_back : (p : ℕ) → p < 5 → port_at (name_of_port p) ≡ Some p
+pub port_called_back : (p : ℕ) → p < 5 → port_at (name_of_port p) ≡ Some p
 port_called_back zero h = refl
 port_called_back (suc zero) h = refl
 port_called_back (suc (suc zero)) h = refl

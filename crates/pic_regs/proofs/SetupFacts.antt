@@ -1,11 +1,12 @@
 -- What the registers are that a setup may name: ports, their TRIS, and bytes that are no general RAM.
-use Rattle.std.specs.Prelude.{ℕ, ◌+◌, ◌<◌, Bool, true, false, cond, List, [], ◌∷◌, Option, Some, None, codes}
+use Rattle.std.specs.Prelude.{ℕ, ◌+◌, ◌<◌, Bool, true, false, cond, List, [], ◌∷◌, Option, Some, None, IfSome, codes}
 use Rattle.std.proofs.Common.{◌≡◌, refl, ap, ◌∙◌, sym, lit<}
 use Rattle.std.specs.Map.{lookup}
 use Rattle.std.specs.Str.{bytes_eq}
 use Rattle.std.proofs.lemmas.Slice.Eq.{bytes_eq-Decides}
 use Rattle.pic_isa.specs.Names.{setup_registers, register_at, port_at}
-use Rattle.pic_regs.specs.Map.{Reg, Port, Tris, Plain, within, reg_at}
+use Rattle.pic_isa.proofs.NameFacts.{register_all}
+use Rattle.pic_regs.specs.Map.{Reg, Port, Tris, Plain, within, reg_at, canonical}
 use Rattle.pic_regs.specs.Start.{ram_place}
 
 -- A name and its address beside what the address means.
@@ -75,3 +76,7 @@ each_may =
 
 pub may_set_up : (name : List ℕ) (a : ℕ) → register_at name ≡ Some a → MaySetUp name a
 may_set_up name a found = finds MaySetUp name setup_registers a each_may found
+
+-- It is named by its lowest address.
+pub register_is_lowest : (name : List ℕ) → IfSome (register_at name) (λ address. canonical address ≡ Some address)
+register_is_lowest name = register_all (λ address. canonical address ≡ Some address) name (refl, (refl, (refl, (refl, (refl, (refl, (refl, (refl, (refl, (refl, (refl, (refl, (refl, (refl, (refl, (refl, (refl, (refl, (refl, (refl, (refl, (refl, (refl, (refl, (refl, (refl, (refl, (refl, (refl, (refl, (refl, tt)))))))))))))))))))))))))))))))
