@@ -6,6 +6,7 @@ pub mod ListsRightlyOf
 pub mod MapFacts
 pub mod NamesOf
 pub mod OneProgram
+pub mod Promises
 pub mod RangeFacts
 pub mod ReportsOf
 pub mod WrittenFacts

@@ -1,7 +1,9 @@
 ghost use Rattle.std.specs.Prelude.{◌≡◌, IfOk, length};
-ghost use Rattle.hex_file.specs.Written.{IsWritable};
+ghost use Rattle.hex_file.specs.Written.{IsWritable, written};
 ghost use Rattle.map_file.specs.MapRules.{IsMap};
-ghost use Rattle.firmware.specs.Counters.{IsCounter};
+ghost use Rattle.map_file.specs.MapText.{map_text};
+ghost use Rattle.stack_bound.specs.Firmware.{IsFirmware};
+ghost use Rattle.firmware.specs.Counters.{IsCounter, program_of};
 ghost use Rattle.firmware.specs.Layout.{code_of, image_of};
 ghost use Rattle.firmware.specs.Maps.{map_of};
 
@@ -76,6 +78,8 @@ pub fn compile(alloc: Global, counter: &Counter) -> Result<Built, AllocError>
     // Both can be written.
     ensures writable { IfOk result (λ built. IsWritable built.image) }
     ensures rules { IfOk result (λ built. IsMap built.map) }
+    // Their bytes are firmware for the program.
+    ensures firmware { IfOk result (λ built. IsFirmware (program_of counter.now) (written built.image) (map_text built.map)) }
 {
     let image = image(alloc, counter)?;
     let words = image.words.len() as u16;

@@ -4,15 +4,11 @@ use Rattle.edge_io.specs.declared.outside.TheConstants.{LONGEST_FILE}
 use Rattle.edge_io.specs.Files.{ReadGives, Held, SameFiles, BothTold, IfTold, KeepsFiles}
 use Rattle.edge_io.specs.declared.faults.ReadFault.{ReadFault}
 use Rattle.edge_io.specs.declared.faults.ReadFault.TheVariants as read
-use Rattle.hex_file.specs.Written.{written}
 use Rattle.map_file.specs.MapText.{map_text}
-use Rattle.firmware.specs.declared.counters.Counter.{Counter}
 use Rattle.firmware.specs.Counters.{Spells, program_of}
 use Rattle.frp_tool.specs.Lines.{summary}
-use Rattle.firmware.specs.Layout.{image_of}
-use Rattle.firmware.specs.Maps.{map_of}
 use Rattle.frp_tool.specs.Steps.{Ends, Stores}
-use Rattle.frp_tool.specs.Answers.{Request, NoForm, HexFailed, MapFailed, Done, OfSource, Compiles, CompilesText, outside}
+use Rattle.frp_tool.specs.Answers.{Request, Firmware, NoForm, HexFailed, MapFailed, Done, OfSource, Compiles, CompilesText, outside}
 
 pub keeps_refl : (files : Option Held) → KeepsFiles files files
 keeps_refl None = tt
@@ -44,19 +40,19 @@ of_source r None reads writes puts taken text P told p = tt
 of_source r (Some held) reads writes puts taken text P told p = (text, told, p)
 
 module _ (r : Request) (files0 files1 files2 : Option Held) (reads reads' writes0 writes1 writes2 : ℕ) (taken taken' : Option (List ℕ)) (puts puts' status : ℕ) (text : List ℕ) where
-  stored : IfTold files0 (λ held. held r.source ≡ Some text) → KeepsFiles files0 files1 → writes0 ≤ writes1 → (c : Counter) → Spells text c → (line : List ℕ) → line ≡ summary (map_of c) (program_of c)
-      → Stores r.hex (written (image_of c)) r.map (map_text (map_of c)) line files1 files2 writes1 writes2 taken taken' puts puts' status
+  stored : IfTold files0 (λ held. held r.source ≡ Some text) → KeepsFiles files0 files1 → writes0 ≤ writes1 → (f : Firmware) → Spells text f.counter → (line : List ℕ) → line ≡ summary f.map (program_of f.counter)
+      → Stores r.hex f.hex r.map (map_text f.map) line files1 files2 writes1 writes2 taken taken' puts puts' status
       → Compiles r (outside files0 reads writes0 taken puts) (outside files2 reads' writes2 taken' puts') status
-  stored told keeps fewer c spells line is (inl (six, same, inl kept)) = inl (six, same, inl (keeps_trans files0 files1 files2 keeps kept))
-  stored told keeps fewer c spells line is (inl (six, same, inr part)) =
-      inl (six, same, inr (c, of_source r files0 reads writes0 puts taken text _ told spells, behind files0 files1 files2 _ _ (λ old mid new h k. (k.0, λ name other. k.1 name other ∙ h name)) keeps part))
-  stored told keeps fewer c spells line is (inr (inl (rose, part, ends))) =
-      inr (HexFailed c, (of_source r files0 reads writes0 puts taken text _ told spells, omega (arith, rose)), behind files0 files1 files2 _ _ (λ old mid new h k name other. k name other ∙ h name) keeps part, ends)
-  stored told keeps fewer c spells line is (inr (inr (inl (rose, part, ends)))) =
-      inr (MapFailed c, (of_source r files0 reads writes0 puts taken text _ told spells, omega (arith, rose)), behind files0 files1 files2 _ _ (λ old mid new h k. (k.0, λ name one two. k.1 name one two ∙ h name)) keeps part, ends)
-  stored told keeps fewer c spells line is (inr (inr (inr (part, ends)))) =
+  stored told keeps fewer f spells line is (inl (six, same, inl kept)) = inl (six, same, inl (keeps_trans files0 files1 files2 keeps kept))
+  stored told keeps fewer f spells line is (inl (six, same, inr part)) =
+      inl (six, same, inr (f, of_source r files0 reads writes0 puts taken text _ told spells, behind files0 files1 files2 _ _ (λ old mid new h k. (k.0, λ name other. k.1 name other ∙ h name)) keeps part))
+  stored told keeps fewer f spells line is (inr (inl (rose, part, ends))) =
+      inr (HexFailed f.counter, (of_source r files0 reads writes0 puts taken text _ told spells, omega (arith, rose)), behind files0 files1 files2 _ _ (λ old mid new h k name other. k name other ∙ h name) keeps part, ends)
+  stored told keeps fewer f spells line is (inr (inr (inl (rose, part, ends)))) =
+      inr (MapFailed f, (of_source r files0 reads writes0 puts taken text _ told spells, omega (arith, rose)), behind files0 files1 files2 _ _ (λ old mid new h k. (k.0, λ name one two. k.1 name one two ∙ h name)) keeps part, ends)
+  stored told keeps fewer f spells line is (inr (inr (inr (part, ends)))) =
       inr (
-        Done c,
+        Done f,
         of_source r files0 reads writes0 puts taken text _ told spells,
         behind files0 files1 files2 _ _ (λ old mid new h k. (k.0, k.1, λ name one two. k.2 name one two ∙ h name)) keeps part,
         subst (λ (x : List ℕ). Ends taken taken' puts puts' 0 x status) is ends,
@@ -67,7 +63,7 @@ module _ (r : Request) (files0 files1 files2 : Option Held) (reads reads' writes
       → Compiles r (outside files0 reads writes0 taken puts) (outside files2 reads' writes2 taken' puts') status
   compiled told short keeps fewer (inl (none, kept, ends)) = inr (NoForm, of_source r files0 reads writes0 puts taken text _ told (short, none), keeps_trans files0 files1 files2 keeps kept, ends)
   compiled told short keeps fewer (inr (inl (six, same, kept))) = inl (six, same, inl (keeps_trans files0 files1 files2 keeps kept))
-  compiled told short keeps fewer (inr (inr (c, spells, stores))) = stored told keeps fewer c spells _ refl stores
+  compiled told short keeps fewer (inr (inr (f, spells, stores))) = stored told keeps fewer f spells _ refl stores
 
 -- What a read that failed says of the source.
 pub missing_from : (files : Option Held) (name source : List ℕ) (fault : ReadFault) → name ≡ source → fault ≡ read.Missing → ReadGives files name (Err fault) → IfTold files (λ held. held source ≡ None)

@@ -7,10 +7,9 @@ use Rattle.edge_io.specs.Sinks.{Appends}
 use Rattle.edge_io.specs.Counts.{Rose}
 use Rattle.firmware.specs.declared.counters.Counter.{Counter}
 use Rattle.firmware.specs.Counters.{Spells, program_of}
-use Rattle.firmware.specs.Maps.{map_of}
 use Rattle.frp_tool.specs.Lines.{usage, summary}
 use Rattle.frp_tool.specs.Steps.{Ends}
-use Rattle.frp_tool.specs.Answers.{Answers, request_of, Outside, Request, Verdict, Missing, ReadFailed, TooLong, NoForm, HexFailed, MapFailed, Done, OfSource, SourceSpells, HexIsWhole, MapIsWhole, OthersAsBefore, Cause, Left, status_of, line_of, Compiles}
+use Rattle.frp_tool.specs.Answers.{Answers, request_of, Outside, Request, Firmware, Verdict, Missing, ReadFailed, TooLong, NoForm, HexFailed, MapFailed, Done, OfSource, SourceSpells, HexIsWhole, MapIsWhole, OthersAsBefore, Cause, Left, status_of, line_of, Compiles}
 use Rattle.frp_tool.specs.Statuses.{DueOrYielded, TwoWhere, ThreeWhere, FaultWhere, OneWhere, FilesKept, DoneMeans, Complete, Promises}
 
 -- How a call ends, by its request.
@@ -91,8 +90,8 @@ module _ (r : Request) (before after : Outside) (status : ℕ) where
   three_only TooLong cause is e = absurd (omega arith)
   three_only NoForm cause is e = absurd (omega arith)
   three_only (HexFailed c) cause is e = absurd (omega arith)
-  three_only (MapFailed c) cause is e = absurd (omega arith)
-  three_only (Done c) cause is e = absurd (omega arith)
+  three_only (MapFailed f) cause is e = absurd (omega arith)
+  three_only (Done f) cause is e = absurd (omega arith)
 
   three_when : (held : Held) → before.files ≡ Some held → held r.source ≡ None → (v : Verdict) → Cause r before after v → DueOrYielded (status_of v) status → DueOrYielded 3 status
   three_when held told none Missing cause ends = ends
@@ -100,8 +99,8 @@ module _ (r : Request) (before after : Outside) (status : ℕ) where
   three_when held told none TooLong cause ends = absurd (not_held r before held _ told none cause)
   three_when held told none NoForm cause ends = absurd (not_held r before held _ told none cause)
   three_when held told none (HexFailed c) cause ends = absurd (not_held r before held _ told none cause.0)
-  three_when held told none (MapFailed c) cause ends = absurd (not_held r before held _ told none cause.0)
-  three_when held told none (Done c) cause ends = absurd (not_held r before held _ told none cause)
+  three_when held told none (MapFailed f) cause ends = absurd (not_held r before held _ told none cause.0)
+  three_when held told none (Done f) cause ends = absurd (not_held r before held _ told none cause)
 
   four_only : (v : Verdict) → Cause r before after v → status ≡ status_of v → status ≡ 4 → Rose before.read_faults after.read_faults
   four_only Missing cause is e = absurd (omega arith)
@@ -109,8 +108,8 @@ module _ (r : Request) (before after : Outside) (status : ℕ) where
   four_only TooLong cause is e = absurd (omega arith)
   four_only NoForm cause is e = absurd (omega arith)
   four_only (HexFailed c) cause is e = absurd (omega arith)
-  four_only (MapFailed c) cause is e = absurd (omega arith)
-  four_only (Done c) cause is e = absurd (omega arith)
+  four_only (MapFailed f) cause is e = absurd (omega arith)
+  four_only (Done f) cause is e = absurd (omega arith)
 
   five_only : (v : Verdict) → Cause r before after v → status ≡ status_of v → status ≡ 5 → Rose before.write_faults after.write_faults
   five_only Missing cause is e = absurd (omega arith)
@@ -118,8 +117,8 @@ module _ (r : Request) (before after : Outside) (status : ℕ) where
   five_only TooLong cause is e = absurd (omega arith)
   five_only NoForm cause is e = absurd (omega arith)
   five_only (HexFailed c) cause is e = cause.1
-  five_only (MapFailed c) cause is e = cause.1
-  five_only (Done c) cause is e = absurd (omega arith)
+  five_only (MapFailed f) cause is e = cause.1
+  five_only (Done f) cause is e = absurd (omega arith)
 
   one_only : (v : Verdict) → Cause r before after v → status ≡ status_of v → status ≡ 1 → OfSource r before (λ text. (LONGEST_FILE < length text) ⊎ ((c : Counter) → Spells text c → ⊥))
   one_only Missing cause is e = absurd (omega arith)
@@ -127,8 +126,8 @@ module _ (r : Request) (before after : Outside) (status : ℕ) where
   one_only TooLong cause is e = of_map r before _ _ (λ text long. inl long) cause
   one_only NoForm cause is e = of_map r before _ _ (λ text none. inr none.1) cause
   one_only (HexFailed c) cause is e = absurd (omega arith)
-  one_only (MapFailed c) cause is e = absurd (omega arith)
-  one_only (Done c) cause is e = absurd (omega arith)
+  one_only (MapFailed f) cause is e = absurd (omega arith)
+  one_only (Done f) cause is e = absurd (omega arith)
 
   kept : (v : Verdict) → Left r before.files after.files v → status ≡ status_of v → 0 < status → status < 5 → KeepsFiles before.files after.files
   kept Missing left is some small = left
@@ -136,8 +135,8 @@ module _ (r : Request) (before after : Outside) (status : ℕ) where
   kept TooLong left is some small = left
   kept NoForm left is some small = left
   kept (HexFailed c) left is some small = absurd (omega arith)
-  kept (MapFailed c) left is some small = absurd (omega arith)
-  kept (Done c) left is some small = absurd (omega arith)
+  kept (MapFailed f) left is some small = absurd (omega arith)
+  kept (Done f) left is some small = absurd (omega arith)
 
   others : (v : Verdict) → Left r before.files after.files v → BothTold before.files after.files (OthersAsBefore r)
   others Missing left = both_map before.files after.files _ _ (λ old new same name one two. same name) left
@@ -145,18 +144,18 @@ module _ (r : Request) (before after : Outside) (status : ℕ) where
   others TooLong left = both_map before.files after.files _ _ (λ old new same name one two. same name) left
   others NoForm left = both_map before.files after.files _ _ (λ old new same name one two. same name) left
   others (HexFailed c) left = both_map before.files after.files _ _ (λ old new same name one two. same name one) left
-  others (MapFailed c) left = both_map before.files after.files _ _ (λ old new h. h.1) left
-  others (Done c) left = both_map before.files after.files _ _ (λ old new h. h.2) left
+  others (MapFailed f) left = both_map before.files after.files _ _ (λ old new h. h.1) left
+  others (Done f) left = both_map before.files after.files _ _ (λ old new h. h.2) left
 
   done : (v : Verdict) → Cause r before after v → Left r before.files after.files v → status ≡ status_of v → Appends before.taken after.taken (line_of r v) → status ≡ 0
-      → (c : Counter) × SourceSpells r before c × BothTold before.files after.files (λ old new. HexIsWhole r new c × MapIsWhole r new c × OthersAsBefore r old new) × Appends before.taken after.taken (summary (map_of c) (program_of c))
+      → (f : Firmware) × SourceSpells r before f.counter × BothTold before.files after.files (λ old new. HexIsWhole r new f × MapIsWhole r new f × OthersAsBefore r old new) × Appends before.taken after.taken (summary f.map (program_of f.counter))
   done Missing cause left is put e = absurd (omega arith)
   done ReadFailed cause left is put e = absurd (omega arith)
   done TooLong cause left is put e = absurd (omega arith)
   done NoForm cause left is put e = absurd (omega arith)
   done (HexFailed c) cause left is put e = absurd (omega arith)
-  done (MapFailed c) cause left is put e = absurd (omega arith)
-  done (Done c) cause left is put e = (c, cause, left, put)
+  done (MapFailed f) cause left is put e = absurd (omega arith)
+  done (Done f) cause left is put e = (f, cause, left, put)
 
   -- A verdict other than that all was done has another cause, where a program is held and no fault was counted.
   all_done : (held : Held) (text : List ℕ) (c : Counter) → before.files ≡ Some held → held r.source ≡ Some text → Spells text c → (Rose before.read_faults after.read_faults → ⊥) → (Rose before.write_faults after.write_faults → ⊥)
@@ -218,7 +217,7 @@ files_kept (Some r0) before after status h = (
 pub done_means : (request : Option Request) (before after : Outside) (status : ℕ) → EndsSo request before after status → DoneMeans request before after status
 done_means None before after status h = λ zero. absurd (omega (arith, (settled _ _ _ _ _ _ _ h.1 (omega (arith, zero))).0))
 done_means (Some r) before after status h = λ zero.
-    let v = verdict r before after status h (omega (arith, zero)) in let d = done r before after status v.0 v.1 v.2 v.3 v.4 zero in (r, refl, d.0, d.1, d.2, d.3)
+    let v = verdict r before after status h (omega (arith, zero)) in let d = done r before after status v.0 v.1 v.2 v.3 v.4 zero in (r, refl, d.0.counter, d.1, d.0.hex, d.0.map, d.0.is_firmware, d.2, d.3)
 
 pub complete : (request : Option Request) (before after : Outside) (status : ℕ) → EndsSo request before after status → Complete request before after status
 complete None before after status h = λ r held text c e. cc

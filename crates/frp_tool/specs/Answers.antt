@@ -2,12 +2,11 @@ use Rattle.std.specs.Prelude.{◌≡◌, ℕ, ◌<◌, ◌≤◌, List, [], ◌�
 use Rattle.edge_io.specs.declared.outside.TheConstants.{LONGEST_FILE}
 use Rattle.edge_io.specs.Files.{Held, SameOthers, BothTold, IfTold, KeepsFiles}
 use Rattle.edge_io.specs.Counts.{Rose}
-use Rattle.hex_file.specs.Written.{written}
+use Rattle.map_file.specs.declared.maps.Map.{Map}
 use Rattle.map_file.specs.MapText.{map_text}
+use Rattle.stack_bound.specs.Firmware.{IsFirmware}
 use Rattle.firmware.specs.declared.counters.Counter.{Counter}
 use Rattle.firmware.specs.Counters.{Spells, program_of}
-use Rattle.firmware.specs.Layout.{image_of}
-use Rattle.firmware.specs.Maps.{map_of}
 use Rattle.frp_tool.specs.declared.commands.Command.{Command}
 use Rattle.frp_tool.specs.declared.commands.Command.TheVariants.{Compile}
 use Rattle.frp_tool.specs.Commands.{command_of}
@@ -37,6 +36,14 @@ abbrev pub request_of : List (List ℕ) → Option Request
 request_of (name ∷ a ∷ b ∷ c ∷ []) = where_compile (command_of (name ∷ a ∷ b ∷ c ∷ [])) (record { source = a; hex = b; map = c })
 request_of _ = None
 
+-- What `compile` makes of the program that a counter stands for: the bytes of HEX, and a map, whose text are those of MAP.
+-- They are firmware for the program.
+pub record Firmware : Type 0 where
+  pub counter : Counter
+  pub hex : List ℕ
+  pub map : Map
+  pub is_firmware : IsFirmware (program_of counter) hex (map_text map)
+
 -- What the tests of a request say, in their order: the source isn't there; it wasn't read; it is too long; it spells no
 -- program of the first form; its HEX wasn't written; its map wasn't written; all was done.
 pub data Verdict : Type 0 where
@@ -45,8 +52,8 @@ pub data Verdict : Type 0 where
   TooLong : Verdict
   NoForm : Verdict
   HexFailed : Counter → Verdict
-  MapFailed : Counter → Verdict
-  Done : Counter → Verdict
+  MapFailed : Firmware → Verdict
+  Done : Firmware → Verdict
 
 abbrev pub status_of : Verdict → ℕ
 status_of Missing = 3
@@ -54,8 +61,8 @@ status_of ReadFailed = 4
 status_of TooLong = 1
 status_of NoForm = 1
 status_of (HexFailed c) = 5
-status_of (MapFailed c) = 5
-status_of (Done c) = 0
+status_of (MapFailed f) = 5
+status_of (Done f) = 0
 
 -- The line that is to be put.
 abbrev pub line_of : Request → Verdict → List ℕ
@@ -64,8 +71,8 @@ line_of r ReadFailed = named_line (codes "read failed: ") r.source
 line_of r TooLong = named_line (codes "refused: long ") r.source
 line_of r NoForm = form_line
 line_of r (HexFailed c) = named_line (codes "write failed: ") r.hex
-line_of r (MapFailed c) = named_line (codes "write failed: ") r.map
-line_of r (Done c) = summary (map_of c) (program_of c)
+line_of r (MapFailed f) = named_line (codes "write failed: ") r.map
+line_of r (Done f) = summary f.map (program_of f.counter)
 
 -- The source is held, and this holds of its text, where files are told.
 abbrev pub OfSource : Request → Outside → (List ℕ → Type 0) → Type 0
@@ -82,15 +89,15 @@ Cause r before after ReadFailed = Rose before.read_faults after.read_faults × O
 Cause r before after TooLong = OfSource r before (λ text. LONGEST_FILE < length text)
 Cause r before after NoForm = OfSource r before (λ text. (length text ≤ LONGEST_FILE) × ((c : Counter) → Spells text c → ⊥))
 Cause r before after (HexFailed c) = SourceSpells r before c × Rose before.write_faults after.write_faults
-Cause r before after (MapFailed c) = SourceSpells r before c × Rose before.write_faults after.write_faults
-Cause r before after (Done c) = SourceSpells r before c
+Cause r before after (MapFailed f) = SourceSpells r before f.counter × Rose before.write_faults after.write_faults
+Cause r before after (Done f) = SourceSpells r before f.counter
 
--- HEX holds the written form of the counter's image, and MAP the text of its map.
-abbrev pub HexIsWhole : Request → Held → Counter → Type 0
-HexIsWhole r held c = Has held r.hex (written (image_of c))
+-- HEX holds its bytes of the firmware, and MAP the text of the map.
+abbrev pub HexIsWhole : Request → Held → Firmware → Type 0
+HexIsWhole r held f = Has held r.hex f.hex
 
-abbrev pub MapIsWhole : Request → Held → Counter → Type 0
-MapIsWhole r held c = Has held r.map (map_text (map_of c))
+abbrev pub MapIsWhole : Request → Held → Firmware → Type 0
+MapIsWhole r held f = Has held r.map (map_text f.map)
 
 -- Each file but HEX and MAP is as it was.
 abbrev pub OthersAsBefore : Request → Held → Held → Type 0
@@ -103,8 +110,8 @@ Left r old new ReadFailed = KeepsFiles old new
 Left r old new TooLong = KeepsFiles old new
 Left r old new NoForm = KeepsFiles old new
 Left r old new (HexFailed c) = BothTold old new (λ before after. SameOthers before after r.hex)
-Left r old new (MapFailed c) = BothTold old new (λ before after. HexIsWhole r after c × OthersAsBefore r before after)
-Left r old new (Done c) = BothTold old new (λ before after. HexIsWhole r after c × MapIsWhole r after c × OthersAsBefore r before after)
+Left r old new (MapFailed f) = BothTold old new (λ before after. HexIsWhole r after f × OthersAsBefore r before after)
+Left r old new (Done f) = BothTold old new (λ before after. HexIsWhole r after f × MapIsWhole r after f × OthersAsBefore r before after)
 
 -- Memory ran out before there was a verdict: nothing was put, and no file has changed, or HEX is whole and no other
 -- has.
@@ -112,7 +119,7 @@ abbrev pub Exhausted : Request → Outside → Outside → ℕ → Type 0
 Exhausted r before after status =
     (status ≡ 6) × (before.taken ≡ after.taken)
     × (KeepsFiles before.files after.files
-    ⊎ ((c : Counter) × SourceSpells r before c × BothTold before.files after.files (λ old new. HexIsWhole r new c × SameOthers old new r.hex)))
+    ⊎ ((f : Firmware) × SourceSpells r before f.counter × BothTold before.files after.files (λ old new. HexIsWhole r new f × SameOthers old new r.hex)))
 
 -- How a call of `compile` ends: with a verdict, its cause, the files that it leaves and its line, or exhausted.
 abbrev pub Compiles : Request → Outside → Outside → ℕ → Type 0
@@ -126,12 +133,17 @@ Answers words before after status =
     MatchOption (request_of words) (KeepsFiles before.files after.files × Ends before.taken after.taken before.put_faults after.put_faults 2 usage status) (λ r. Compiles r before after status)
 
 -- How `compile` goes on with a text that was read: it spells no program of the first form; memory ran out before the
--- writes; or it spells that of a counter, whose image and map are written and whose summary is put.
+-- writes; or it spells one, whose firmware is written, and the summary of its map is put.
 abbrev pub CompilesText : List ℕ → List ℕ → List ℕ → Option Held → Option Held → ℕ → ℕ → Option (List ℕ) → Option (List ℕ) → ℕ → ℕ → ℕ → Type 0
 CompilesText text hex map files files' writes writes' taken taken' puts puts' status =
     (((c : Counter) → Spells text c → ⊥) × KeepsFiles files files' × Ends taken taken' puts puts' 1 form_line status)
     ⊎ ((status ≡ 6) × (taken ≡ taken') × KeepsFiles files files')
-    ⊎ ((c : Counter) × Spells text c × Stores hex (written (image_of c)) map (map_text (map_of c)) (summary (map_of c) (program_of c)) files files' writes writes' taken taken' puts puts' status)
+    ⊎ ((f : Firmware) × Spells text f.counter × Stores hex f.hex map (map_text f.map) (summary f.map (program_of f.counter)) files files' writes writes' taken taken' puts puts' status)
+
+-- The bytes of HEX and MAP and the line that `compile` makes for the program that a counter stands for: firmware for it, the
+-- second the text of a map, and the summary of that map.
+abbrev pub AreTexts : Counter → List ℕ → List ℕ → List ℕ → Type 0
+AreTexts c hex text line = (m : Map) × (text ≡ map_text m) × IsFirmware (program_of c) hex (map_text m) × (line ≡ summary m (program_of c))
 
 -- What a call meets or leaves, from its parts.
 abbrev pub outside : Option Held → ℕ → ℕ → Option (List ℕ) → ℕ → Outside

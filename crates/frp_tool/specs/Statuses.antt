@@ -3,11 +3,14 @@ use Rattle.edge_io.specs.declared.outside.TheConstants.{LONGEST_FILE}
 use Rattle.edge_io.specs.Files.{Held, BothTold, IfTold, KeepsFiles}
 use Rattle.edge_io.specs.Sinks.{Appends}
 use Rattle.edge_io.specs.Counts.{Rose}
+use Rattle.map_file.specs.declared.maps.Map.{Map}
+use Rattle.map_file.specs.MapText.{map_text}
+use Rattle.stack_bound.specs.Firmware.{IsFirmware}
 use Rattle.firmware.specs.declared.counters.Counter.{Counter}
 use Rattle.firmware.specs.Counters.{Spells, program_of}
-use Rattle.firmware.specs.Maps.{map_of}
 use Rattle.frp_tool.specs.Lines.{summary}
-use Rattle.frp_tool.specs.Answers.{Answers, request_of, Outside, Request, OfSource, SourceSpells, HexIsWhole, MapIsWhole, OthersAsBefore}
+use Rattle.frp_tool.specs.Steps.{Has}
+use Rattle.frp_tool.specs.Answers.{Answers, request_of, Outside, Request, OfSource, SourceSpells, OthersAsBefore}
 
 -- The status is this one, or 5 since its put failed, or 6 since memory ran out.
 abbrev pub DueOrYielded : ℕ → ℕ → Type 0
@@ -42,8 +45,9 @@ FilesKept request before after status =
 -- map; all other files are as before; and the summary was put.
 abbrev pub DoneMeans : Option Request → Outside → Outside → ℕ → Type 0
 DoneMeans request before after status = status ≡ 0 → (r : Request) × (request ≡ Some r) × (c : Counter) × SourceSpells r before c
-    × BothTold before.files after.files (λ old new. HexIsWhole r new c × MapIsWhole r new c × OthersAsBefore r old new)
-    × Appends before.taken after.taken (summary (map_of c) (program_of c))
+    × (hex : List ℕ) × (m : Map) × IsFirmware (program_of c) hex (map_text m)
+    × BothTold before.files after.files (λ old new. Has new r.hex hex × Has new r.map (map_text m) × OthersAsBefore r old new)
+    × Appends before.taken after.taken (summary m (program_of c))
 
 -- Where files are told, the source spells a program of the first form, and no fault is counted, the status is 0 or 6.
 abbrev pub Complete : Option Request → Outside → Outside → ℕ → Type 0

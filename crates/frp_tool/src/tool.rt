@@ -1,12 +1,8 @@
 ghost use Rattle.std.specs.Prelude.{◌≡◌, ◌≢◌, ℕ, List, [], ◌∷◌, ◌++◌, ◌≤◌, IfOk, OnOk, MatchOption, string_bytes, codes};
 ghost use Rattle.std.specs.Fmt.{decimal};
-ghost use Rattle.hex_file.specs.Written.{written};
-ghost use Rattle.map_file.specs.MapText.{map_text};
-ghost use Rattle.firmware.specs.Counters.{IsCounter, program_of};
-ghost use Rattle.firmware.specs.Layout.{image_of};
-ghost use Rattle.firmware.specs.Maps.{map_of};
-ghost use Rattle.frp_tool.specs.Lines.{named_line, summary, summary_of};
-ghost use Rattle.frp_tool.specs.Answers.{Answers, Compiles, CompilesText, outside};
+ghost use Rattle.firmware.specs.Counters.{IsCounter};
+ghost use Rattle.frp_tool.specs.Lines.{named_line, summary_of};
+ghost use Rattle.frp_tool.specs.Answers.{Answers, AreTexts, Compiles, CompilesText, outside};
 ghost use Rattle.frp_tool.specs.Statuses.{Promises};
 ghost use Rattle.frp_tool.specs.Steps.{Ends, Stores, StoresMap};
 
@@ -129,9 +125,7 @@ fn summary_line(alloc: Global, map: &Map, limits: Limits) -> Result<String, Allo
 
 fn texts_of(alloc: Global, counter: &Counter) -> Result<Texts, AllocError>
     requires { IsCounter counter.now }
-    ensures hex { IfOk result (λ texts. texts.hex ≡ written (image_of counter.now)) }
-    ensures map { IfOk result (λ texts. texts.map ≡ map_text (map_of counter.now)) }
-    ensures summary { IfOk result (λ texts. string_bytes texts.summary ≡ summary (map_of counter.now) (program_of counter.now)) }
+    ensures { IfOk result (λ texts. AreTexts counter.now texts.hex texts.map (string_bytes texts.summary)) }
 {
     let built = firmware::compile(alloc, counter)?;
     Ok(Texts {

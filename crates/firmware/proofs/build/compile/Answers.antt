@@ -1,5 +1,9 @@
 use Rattle.firmware.proofs.MapFacts.{map_rules}
+use Rattle.firmware.proofs.Promises.{counter_is_firmware}
 use Rattle.firmware.proofs.build.compile.Goals as goal
 
 pub returns-clause-rules : goal.returns-clause-rules
 returns-clause-rules c = rw c.in_ok-map.ensures (map_rules c.args.counter.now c.requires)
+
+pub returns-clause-firmware : goal.returns-clause-firmware
+returns-clause-firmware c = rw (c.in_ok-image.ensures.image, c.in_ok-map.ensures) (counter_is_firmware c.args.counter.now c.requires)

@@ -7,10 +7,12 @@ returns-in-Ok-None g c = inl (rw c.in-Ok-None.field-0-is at c.in-Ok-None.ensures
 
 pub returns-in-Ok : goal.returns-in-Ok
 returns-in-Ok g c =
+    let counter = c.in-Ok-Some.counter in
+    let texts = c.in-Ok.ensures in
     inr (inr (
-      c.in-Ok-Some.counter,
+      record { counter = counter; hex = c.in-Ok.texts.hex; map = texts.0; is_firmware = texts.2 },
       (rw c.in-Ok-Some.field-0-is at c.in-Ok-Some.ensures),
-      stores_same _ _ _ _ _ _ _ _ _ _ _ _ _ _ _ _ _ c.in-Ok.ensures.hex c.in-Ok.ensures.map c.in-Ok.ensures.summary c.store.ensures,
+      stores_same _ _ _ _ _ _ _ _ _ _ _ _ _ _ _ _ _ refl texts.1 texts.3 c.store.ensures,
     ))
 
 pub returns : goal.returns
