@@ -1,8 +1,8 @@
 ghost use Rattle.std.specs.Prelude.{◌≡◌};
 ghost use Rattle.frp_tree.specs.Bounds.{ram_bound, settle_bound, words_bound};
-ghost use Rattle.firmware.specs.Counters.{IsCounter, program_of};
+ghost use Rattle.counter_code.specs.Counters.{IsCounter, program_of};
 
-use crate::counters::Counter;
+use counter_code::Counter;
 
 /// What a program's firmware keeps within: words of program memory, bytes of general RAM outside 70h to
 /// 7Fh, and steps until it has settled.

@@ -3,13 +3,13 @@ ghost use Rattle.hex_file.specs.Written.{IsWritable, written};
 ghost use Rattle.map_file.specs.MapRules.{IsMap};
 ghost use Rattle.map_file.specs.MapText.{map_text};
 ghost use Rattle.stack_bound.specs.Firmware.{IsFirmware};
-ghost use Rattle.firmware.specs.Counters.{IsCounter, program_of};
-ghost use Rattle.firmware.specs.Layout.{code_of, image_of};
-ghost use Rattle.firmware.specs.Maps.{map_of};
+ghost use Rattle.counter_code.specs.Counters.{IsCounter, program_of};
+ghost use Rattle.counter_code.specs.Layout.{code_of, image_of};
+ghost use Rattle.counter_code.specs.Maps.{map_of};
 
 use crate::bounds::limits_of;
 use crate::code::{COMMIT, OPEN, STATE, image};
-use crate::counters::Counter;
+use counter_code::Counter;
 use crate::registers::written_ranges;
 use frp_tree::{List, Ty};
 use hex_file::Image;

@@ -3,10 +3,10 @@ ghost use Rattle.std.specs.List.{AllByRecursion};
 ghost use Rattle.pic_isa.specs.Instructions.{FieldsFit};
 ghost use Rattle.pic_isa.specs.Sources.{enable_of};
 ghost use Rattle.hex_file.specs.Written.{IsWritable};
-ghost use Rattle.firmware.specs.Counters.{IsCounter};
-ghost use Rattle.firmware.specs.Layout.{within_bank_1, bank_1_code, boot_code, clear_bit, code_of, handler, image_of, in_bank_1, intcon_enable, is_peripheral, low_bits, port_address, set_bit, setup_code, setup_in_bank_0, setup_in_bank_1, words_from};
+ghost use Rattle.counter_code.specs.Counters.{IsCounter};
+ghost use Rattle.counter_code.specs.Layout.{within_bank_1, bank_1_code, boot_code, clear_bit, code_of, handler, image_of, in_bank_1, intcon_enable, is_peripheral, low_bits, port_address, set_bit, setup_code, setup_in_bank_0, setup_in_bank_1, words_from};
 
-use crate::counters::{Counter, SetupAt};
+use counter_code::{Counter, SetupAt};
 use frp_tree::List;
 use hex_file::{Image, Word};
 use pic_isa::{BitAt, Dest, Instr, Source, encode};

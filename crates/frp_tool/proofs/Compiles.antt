@@ -5,7 +5,7 @@ use Rattle.edge_io.specs.Files.{ReadGives, Held, SameFiles, BothTold, IfTold, Ke
 use Rattle.edge_io.specs.declared.faults.ReadFault.{ReadFault}
 use Rattle.edge_io.specs.declared.faults.ReadFault.TheVariants as read
 use Rattle.map_file.specs.MapText.{map_text}
-use Rattle.firmware.specs.Counters.{Spells, program_of}
+use Rattle.counter_code.specs.Counters.{Spells, program_of}
 use Rattle.frp_tool.specs.Lines.{summary}
 use Rattle.frp_tool.specs.Steps.{Ends, Stores}
 use Rattle.frp_tool.specs.Answers.{Request, Firmware, NoForm, HexFailed, MapFailed, Done, OfSource, Compiles, CompilesText, outside}

@@ -6,12 +6,12 @@ use Rattle.frp_tree.specs.Names.{is_keyword}
 use Rattle.pic_isa.specs.declared.sources.Source.{Source}
 use Rattle.pic_isa.specs.Sources.{source_name}
 use Rattle.pic_isa.specs.Names.{name_of_port}
-use Rattle.firmware.specs.declared.counters.Counter.{Counter}
-use Rattle.firmware.specs.declared.counters.SetupAt.{SetupAt}
-use Rattle.firmware.specs.Counters.{IsCounter, IsSetup, optional_setup_tokens, tokens_of}
+use Rattle.counter_code.specs.declared.counters.Counter.{Counter}
+use Rattle.counter_code.specs.declared.counters.SetupAt.{SetupAt}
+use Rattle.counter_code.specs.Counters.{IsCounter, IsSetup, optional_setup_tokens, tokens_of}
 use Rattle.frp_tool.specs.Items.{IsEventItem, IsWellFormed}
 use Rattle.frp_tree.specs.declared.tokens.Token.{Token}
-use Rattle.firmware.specs.Counters.{clause_tokens, decl_tokens, event_tokens, output_tokens}
+use Rattle.counter_code.specs.Counters.{clause_tokens, decl_tokens, event_tokens, output_tokens}
 
 pub event_once : (tokens rest rest' : List Token) (event event' source source' : List ℕ) (priority priority' : ℕ)
     → tokens ≡ event_tokens event source priority ++ rest → tokens ≡ event_tokens event' source' priority' ++ rest' → (event ≡ event') × (rest ≡ rest')

@@ -7,8 +7,8 @@ use Rattle.frp_tree.specs.declared.tokens.Token.{Token}
 use Rattle.frp_tree.specs.declared.tokens.Token.TheVariants.{Word, Num, Wide, Mark}
 use Rattle.frp_tree.specs.Names.{is_name, has_form_of_name}
 use Rattle.frp_tree.specs.Tokens.{Cuts, here, blank, comment, lexeme, IsLexeme, IsWithin, HasTokens}
-use Rattle.firmware.specs.declared.counters.Counter.{Counter}
-use Rattle.firmware.specs.Counters.{IsCounter, Spells, tokens_of}
+use Rattle.counter_code.specs.declared.counters.Counter.{Counter}
+use Rattle.counter_code.specs.Counters.{IsCounter, Spells, tokens_of}
 use Rattle.frp_tool.specs.Items.{IsWellFormed}
 
 is_name_from : (name w : List ℕ) → has_form_of_name w ≡ true → name ≡ w → length name ≤ 31 → is_name name ≡ true

@@ -5,8 +5,8 @@ use Rattle.edge_io.specs.declared.outside.TheConstants.{LONGEST_FILE}
 use Rattle.edge_io.specs.Files.{Held, BothTold, IfTold, KeepsFiles}
 use Rattle.edge_io.specs.Sinks.{Appends}
 use Rattle.edge_io.specs.Counts.{Rose}
-use Rattle.firmware.specs.declared.counters.Counter.{Counter}
-use Rattle.firmware.specs.Counters.{Spells, program_of}
+use Rattle.counter_code.specs.declared.counters.Counter.{Counter}
+use Rattle.counter_code.specs.Counters.{Spells, program_of}
 use Rattle.frp_tool.specs.Lines.{usage, summary}
 use Rattle.frp_tool.specs.Steps.{Ends}
 use Rattle.frp_tool.specs.Answers.{Answers, request_of, Outside, Request, Firmware, Verdict, Missing, ReadFailed, TooLong, NoForm, HexFailed, MapFailed, Done, OfSource, SourceSpells, HexIsWhole, MapIsWhole, OthersAsBefore, Cause, Left, status_of, line_of, Compiles}

@@ -5,8 +5,8 @@ use Rattle.edge_io.specs.Counts.{Rose}
 use Rattle.map_file.specs.declared.maps.Map.{Map}
 use Rattle.map_file.specs.MapText.{map_text}
 use Rattle.stack_bound.specs.Firmware.{IsFirmware}
-use Rattle.firmware.specs.declared.counters.Counter.{Counter}
-use Rattle.firmware.specs.Counters.{Spells, program_of}
+use Rattle.counter_code.specs.declared.counters.Counter.{Counter}
+use Rattle.counter_code.specs.Counters.{Spells, program_of}
 use Rattle.frp_tool.specs.declared.commands.Command.{Command}
 use Rattle.frp_tool.specs.declared.commands.Command.TheVariants.{Compile}
 use Rattle.frp_tool.specs.Commands.{command_of}

@@ -2,7 +2,7 @@ use Rattle.std.specs.Prelude.{◌≡◌, ℕ, ◌<◌, ◌≤◌, false, List, O
 use Rattle.frp_tree.specs.Names.{is_keyword, is_name}
 use Rattle.frp_tree.specs.declared.tokens.Token.{Token}
 use Rattle.frp_tree.specs.declared.tokens.Token.TheVariants.{Word, Num, Wide, Mark}
-use Rattle.firmware.specs.declared.counters.SetupAt.{SetupAt}
+use Rattle.counter_code.specs.declared.counters.SetupAt.{SetupAt}
 use Rattle.frp_tool.specs.declared.items.SetupItem.{SetupItem}
 
 -- An event has a name and a priority from 1 to 11.

@@ -6,8 +6,8 @@ use Rattle.edge_io.specs.Counts.{Rose}
 use Rattle.map_file.specs.declared.maps.Map.{Map}
 use Rattle.map_file.specs.MapText.{map_text}
 use Rattle.stack_bound.specs.Firmware.{IsFirmware}
-use Rattle.firmware.specs.declared.counters.Counter.{Counter}
-use Rattle.firmware.specs.Counters.{Spells, program_of}
+use Rattle.counter_code.specs.declared.counters.Counter.{Counter}
+use Rattle.counter_code.specs.Counters.{Spells, program_of}
 use Rattle.frp_tool.specs.Lines.{summary}
 use Rattle.frp_tool.specs.Steps.{Has}
 use Rattle.frp_tool.specs.Answers.{Answers, request_of, Outside, Request, OfSource, SourceSpells, OthersAsBefore}

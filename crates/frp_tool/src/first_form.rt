@@ -2,9 +2,9 @@ ghost use Rattle.std.specs.Prelude.{◌≡◌, ◌≢◌, List, Option as Option
 ghost use Rattle.std.specs.List.{AllByRecursion};
 ghost use Rattle.frp_tree.specs.declared.tokens.Token.{Token as Tokens};
 ghost use Rattle.frp_tree.specs.declared.tokens.Token.TheVariants as token;
-ghost use Rattle.firmware.specs.declared.counters.Counter.{Counter as Counters};
-ghost use Rattle.firmware.specs.declared.counters.SetupAt.{SetupAt as Setups};
-ghost use Rattle.firmware.specs.Counters.{IsCounter, IsSetup, optional_setup_tokens, tokens_of};
+ghost use Rattle.counter_code.specs.declared.counters.Counter.{Counter as Counters};
+ghost use Rattle.counter_code.specs.declared.counters.SetupAt.{SetupAt as Setups};
+ghost use Rattle.counter_code.specs.Counters.{IsCounter, IsSetup, optional_setup_tokens, tokens_of};
 ghost use Rattle.frp_tool.specs.Items.{IsWellFormed, setup_of};
 
 use crate::items::{
@@ -12,7 +12,7 @@ use crate::items::{
     output_item, setup_item,
 };
 use crate::phrases::after_word;
-use firmware::{Counter, SetupAt};
+use counter_code::{Counter, SetupAt};
 use frp_tree::Token;
 use std::alloc::{AllocError, Global};
 

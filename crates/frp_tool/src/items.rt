@@ -4,7 +4,7 @@ ghost use Rattle.frp_tree.specs.Names.{is_keyword};
 ghost use Rattle.frp_tree.specs.declared.tokens.Token.{Token as Tokens};
 ghost use Rattle.pic_isa.specs.declared.sources.Source.{Source as Sources};
 ghost use Rattle.pic_isa.specs.Sources.{source_name};
-ghost use Rattle.firmware.specs.Counters.{clause_tokens, decl_tokens, event_tokens, output_tokens, setup_tokens};
+ghost use Rattle.counter_code.specs.Counters.{clause_tokens, decl_tokens, event_tokens, output_tokens, setup_tokens};
 ghost use Rattle.frp_tool.specs.Items.{IsEventItem};
 
 use crate::phrases::{after_mark, after_word, byte, name, word};

@@ -1,10 +1,10 @@
 ghost use Rattle.std.specs.Prelude.{◌≡◌, ◌↔◌, IfOk, IsTrue, MatchOption};
-ghost use Rattle.firmware.specs.declared.counters.Counter.{Counter as Counters};
-ghost use Rattle.firmware.specs.Counters.{Spells};
+ghost use Rattle.counter_code.specs.declared.counters.Counter.{Counter as Counters};
+ghost use Rattle.counter_code.specs.Counters.{Spells};
 
 use crate::first_form::counter;
 use efrp_syntax::{SyntaxFault, lex};
-use firmware::Counter;
+use counter_code::Counter;
 use std::alloc::{AllocError, Global};
 
 fn is_memory(fault: SyntaxFault) -> bool

@@ -1,6 +1,6 @@
 ghost use Rattle.std.specs.Prelude.{◌≡◌, ◌≢◌, ℕ, List, [], ◌∷◌, ◌++◌, ◌≤◌, IfOk, OnOk, MatchOption, string_bytes, codes};
 ghost use Rattle.std.specs.Fmt.{decimal};
-ghost use Rattle.firmware.specs.Counters.{IsCounter};
+ghost use Rattle.counter_code.specs.Counters.{IsCounter};
 ghost use Rattle.frp_tool.specs.Lines.{named_line, summary_of};
 ghost use Rattle.frp_tool.specs.Answers.{Answers, AreTexts, Compiles, CompilesText, outside};
 ghost use Rattle.frp_tool.specs.Statuses.{Promises};
@@ -9,7 +9,8 @@ ghost use Rattle.frp_tool.specs.Steps.{Ends, Stores, StoresMap};
 use crate::requests::request;
 use crate::source::program;
 use edge_io::{Files, PutFault, ReadFault, Sink, WriteFault};
-use firmware::{Counter, Limits, limits_of};
+use counter_code::Counter;
+use firmware::{Limits, limits_of};
 use frp_tree::{List as Bytes, Text};
 use map_file::Map;
 use std::alloc::{AllocError, Global};

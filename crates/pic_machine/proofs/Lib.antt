@@ -9,4 +9,4 @@ pub mod RisingWords
 pub mod RunExamples
 pub mod Settings
 pub mod StateFacts
-pub mod Turns
+pub mod TurnFacts

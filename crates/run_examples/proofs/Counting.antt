@@ -13,11 +13,11 @@ use Rattle.pic_machine.specs.Run.{Log, run}
 use Rattle.hex_file.specs.declared.images.Image.{Image}
 use Rattle.map_file.specs.declared.maps.MapEvent.{MapEvent}
 use Rattle.map_file.specs.declared.maps.Map.{Map}
-use Rattle.firmware.specs.declared.counters.Counter.{Counter}
-use Rattle.firmware.specs.declared.counters.SetupAt.{SetupAt}
-use Rattle.firmware.specs.Counters.{program_of}
-use Rattle.firmware.specs.Layout.{image_of}
-use Rattle.firmware.specs.Maps.{map_of}
+use Rattle.counter_code.specs.declared.counters.Counter.{Counter}
+use Rattle.counter_code.specs.declared.counters.SetupAt.{SetupAt}
+use Rattle.counter_code.specs.Counters.{program_of}
+use Rattle.counter_code.specs.Layout.{image_of}
+use Rattle.counter_code.specs.Maps.{map_of}
 use Rattle.stack_bound.specs.MapNames.{is_listed}
 use Rattle.stack_bound.specs.Counts.{chip_after}
 

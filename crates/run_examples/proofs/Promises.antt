@@ -4,7 +4,7 @@ use Rattle.std.proofs.Common.{◌≡◌, refl, sym, ◌∙◌, inl, inr, arith}
 use Rattle.pic_regs.specs.Map.{canonical}
 use Rattle.map_file.specs.declared.maps.Range.{Range}
 use Rattle.map_file.specs.MapRules.{IsMap}
-use Rattle.firmware.specs.Maps as maps
+use Rattle.counter_code.specs.Maps as maps
 use Rattle.stack_bound.specs.Counts.{count, latched_count, cleared_count, commit_count, flag_after}
 use Rattle.stack_bound.specs.MapNames.{is_listed}
 use Rattle.stack_bound.specs.Firmware.{Names, Reports, count_below, may_be_written, is_at, is_stop}

@@ -6,11 +6,11 @@ use Rattle.frp_tree.proofs.Programs.{tick}
 use Rattle.pic_isa.specs.declared.sources.Source.{Source}
 use Rattle.pic_isa.specs.declared.sources.Source.TheVariants.{T0, Int, Psp, Ad, Ssp, Ccp1, Tmr2, Tmr1, Ee, Bcl, Ccp2}
 use Rattle.pic_machine.specs.Run.{Log, run}
-use Rattle.firmware.specs.declared.counters.Counter.{Counter}
-use Rattle.firmware.specs.declared.counters.SetupAt.{SetupAt}
-use Rattle.firmware.specs.Counters.{program_of}
-use Rattle.firmware.specs.Layout.{image_of}
-use Rattle.firmware.specs.Maps.{map_of}
+use Rattle.counter_code.specs.declared.counters.Counter.{Counter}
+use Rattle.counter_code.specs.declared.counters.SetupAt.{SetupAt}
+use Rattle.counter_code.specs.Counters.{program_of}
+use Rattle.counter_code.specs.Layout.{image_of}
+use Rattle.counter_code.specs.Maps.{map_of}
 use Rattle.stack_bound.specs.Counts.{commits, port_writes, chip_after}
 use Rattle.stack_bound.specs.MapNames.{states_in, byte_at}
 use Rattle.run_examples.proofs.Counting.{counter_of, pins_out, start, quiet, alone, puts}

@@ -4,7 +4,7 @@ use Rattle.std.proofs.Common.{◌≡◌, refl}
 use Rattle.frp_tree.specs.Meaning.{state_after, ports_after}
 use Rattle.frp_tree.proofs.Programs.{tick}
 use Rattle.pic_machine.specs.declared.steps.Did.TheVariants.{Took, Ran}
-use Rattle.firmware.specs.Maps as maps
+use Rattle.counter_code.specs.Maps as maps
 use Rattle.stack_bound.specs.Counts.{commits, opens, port_writes, chip_after, count, latched_count, cleared_count, commit_count}
 use Rattle.stack_bound.specs.Firmware.{count_below}
 use Rattle.stack_bound.specs.Follows.{reaction_puts}

@@ -1,5 +1,5 @@
 use Rattle.std.proofs.Common.{◌≡◌, ◌++◌, drop}
-use Rattle.firmware.specs.Layout.{words_from}
+use Rattle.counter_code.specs.Layout.{words_from}
 use Rattle.firmware.proofs.code.words.Given as goal
 
 -- the words so far and those of what is left are those of all

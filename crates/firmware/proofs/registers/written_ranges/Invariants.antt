@@ -1,5 +1,5 @@
 use Rattle.std.proofs.Common.{◌≡◌}
-use Rattle.firmware.specs.Maps.{is_written, ranges_below}
+use Rattle.counter_code.specs.Maps.{is_written, ranges_below}
 use Rattle.firmware.proofs.registers.written_ranges.Given as goal
 
 abbrev pub invariant-loop-address : goal.invariant-loop-address

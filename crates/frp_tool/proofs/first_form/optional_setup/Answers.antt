@@ -2,8 +2,8 @@ use Rattle.std.proofs.Common.{◌≡◌, ◌≢◌, ℕ, ◌<◌, List, Option, 
 use Rattle.frp_tree.specs.declared.tokens.Token.{Token}
 use Rattle.frp_tree.specs.declared.tokens.Token.TheVariants.{Word}
 use Rattle.pic_isa.specs.Names.{register_at}
-use Rattle.firmware.specs.declared.counters.SetupAt.{SetupAt}
-use Rattle.firmware.specs.Counters.{IsSetup, setup_tokens, optional_setup_tokens}
+use Rattle.counter_code.specs.declared.counters.SetupAt.{SetupAt}
+use Rattle.counter_code.specs.Counters.{IsSetup, setup_tokens, optional_setup_tokens}
 use Rattle.frp_tool.proofs.first_form.optional_setup.Goals as goal
 
 -- Tokens that begin with `setup` and with no setup are no setup before a definition.

@@ -2,7 +2,7 @@ use Rattle.std.proofs.Common.{subst, sym, ◌≡◌, ◌∙◌, List, true, fals
 use Rattle.std.specs.List.{AllByRecursion}
 use Rattle.frp_tree.specs.declared.tokens.Token.{Token}
 use Rattle.frp_tree.specs.Tokens.{HasTokens}
-use Rattle.firmware.specs.Counters.{tokens_of}
+use Rattle.counter_code.specs.Counters.{tokens_of}
 use Rattle.frp_tool.specs.Items.{IsWellFormed}
 use Rattle.frp_tool.proofs.Sources.{well_formed, spelled}
 use Rattle.frp_tool.proofs.source.program.Goals as goal

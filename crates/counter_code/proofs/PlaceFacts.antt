@@ -1,0 +1,218 @@
+-- What a step behind the boot is, seen through the counts of the promises.
+use Rattle.std.specs.Prelude.{ℕ, zero, suc, ◌+◌, ◌%◌, ◌<◌, ◌≤◌, Bool, true, false, not, ◌&&◌, ◌||◌, ◌==◌, List, [], ◌∷◌, Option, Some, None}
+use Rattle.std.proofs.Common.{◌≡◌, refl, sym, ap, subst, ◌∙◌, arith}
+use Rattle.pic_isa.specs.declared.sources.Source.{Source}
+use Rattle.pic_regs.specs.Bytes.{Byte, bits, num, one_if}
+use Rattle.pic_regs.specs.Map.{Reg}
+use Rattle.pic_regs.specs.Registers.{Registers, flag}
+use Rattle.pic_regs.specs.Arrivals.{Sources, arrived}
+use Rattle.pic_regs.proofs.ArrivalFacts.{flag-arrived}
+use Rattle.pic_regs.proofs.ByteFacts.{num-bits}
+use Rattle.pic_machine.specs.declared.steps.PortWrite.{PortWrite}
+use Rattle.pic_machine.specs.Chip.{Chip}
+use Rattle.pic_machine.specs.Boundary.{Step, boundary}
+use Rattle.pic_machine.specs.Run.{program_of}
+use Rattle.pic_machine.proofs.TurnFacts.{flag-latched}
+use Rattle.counter_code.specs.declared.counters.Counter.{Counter}
+use Rattle.counter_code.specs.Counters.{IsCounter}
+use Rattle.counter_code.specs.Layout.{state_byte, is_peripheral, image_of, ready_address, open_address, commit_address}
+use Rattle.stack_bound.specs.Counts.{is_taking, is_run_at, ran_at, interrupts_on, latches, clears, put_by} 
+use Rattle.stack_bound.specs.Counts as counts
+use Rattle.stack_bound.specs.MapNames.{byte_at}
+use Rattle.stack_bound.specs.Firmware.{is_stop}
+use Rattle.stack_bound.specs.Urgent.{is_heard}
+use Rattle.counter_code.proofs.Story.{Place, Rests, Clears, Loads, Adds, Opens, Commits, Returns, rests, is_clearing, is_opening, is_committing, next, event_in_map, value_after, puts_at}
+use Rattle.counter_code.proofs.Spots.{Kind, NoSetup, LowSetup, HighSetup, kind_of, ready_at, ready_is}
+use Rattle.counter_code.proofs.Targets.{Aimed}
+use Rattle.counter_code.proofs.Writes.{Listed, place_listed}
+use Rattle.counter_code.proofs.PlaceSteps.{Runs, Takes}
+use Rattle.counter_code.proofs.PlaceRuns.{Stays, address_at, runs_here, takes_here, request_here, silent_here, after_run, after_taking}
+
+-- What a step is, from a place, on a chip.
+pub record Facts (c : Counter) (place : Place) (x : Chip) (step : Step) : Type 0 where
+  pub takes_when : counts.takes step ≡ (rests place && flag c.source step.arrived.regs)
+  pub opens_when : ran_at open_address step ≡ is_opening place
+  pub commits_when : ran_at commit_address step ≡ is_committing place
+  pub clears_when : clears c.source step ≡ is_clearing place
+  pub on_when : interrupts_on step ≡ rests place
+  pub hears_when : is_heard (event_in_map c) step ≡ rests place
+  pub values : byte_at step.after state_byte ≡ value_after c place (byte_at x state_byte)
+  pub puts : put_by step.port ≡ puts_at c place (byte_at x state_byte)
+  pub ledger : one_if (flag c.source x.regs) + one_if (latches c.source step) ≡ one_if (flag c.source step.after.regs) + one_if (clears c.source step)
+  pub goes_on : is_stop step.did ≡ false
+  pub listed : Listed c step.wrote
+
+not_ready_address : (kind : Kind) (peripheral : Bool) → ((ready_at kind peripheral == 7) ≡ false) × ((ready_at kind peripheral == 8) ≡ false)
+not_ready_address NoSetup true = (refl, refl)
+not_ready_address NoSetup false = (refl, refl)
+not_ready_address LowSetup true = (refl, refl)
+not_ready_address LowSetup false = (refl, refl)
+not_ready_address HighSetup true = (refl, refl)
+not_ready_address HighSetup false = (refl, refl)
+
+ready_opens_not : (c : Counter) → (ready_address c == 7) ≡ false
+ready_opens_not c = ap (λ a. a == 7) (ready_is c) ∙ (not_ready_address (kind_of c.setup) (is_peripheral c.source)).0
+
+ready_commits_not : (c : Counter) → (ready_address c == 8) ≡ false
+ready_commits_not c = ap (λ a. a == 8) (ready_is c) ∙ (not_ready_address (kind_of c.setup) (is_peripheral c.source)).1
+
+opens_there : (c : Counter) (place : Place) → (address_at c place == 7) ≡ is_opening place
+opens_there c Rests = ready_opens_not c
+opens_there c Clears = refl
+opens_there c Loads = refl
+opens_there c Adds = refl
+opens_there c Opens = refl
+opens_there c Commits = refl
+opens_there c Returns = refl
+
+commits_there : (c : Counter) (place : Place) → (address_at c place == 8) ≡ is_committing place
+commits_there c Rests = ready_commits_not c
+commits_there c Clears = refl
+commits_there c Loads = refl
+commits_there c Adds = refl
+commits_there c Opens = refl
+commits_there c Commits = refl
+commits_there c Returns = refl
+
+-- A flag that stays isn't cleared, and one that was set is.
+and_not : (b : Bool) → (b && not b) ≡ false
+and_not true = refl
+and_not false = refl
+
+pub not_cleared : (source : Source) (step : Step) → flag source step.after.regs ≡ flag source step.arrived.regs → clears source step ≡ false
+not_cleared source step same = ap (λ b. flag source step.arrived.regs && not b) same ∙ and_not (flag source step.arrived.regs)
+
+pub ledger_of : (program : ℕ → ℕ) (arrivals : Sources) (x : Chip) (source : Source) →
+    flag source (boundary program arrivals x).after.regs ≡ flag source (boundary program arrivals x).arrived.regs
+    → one_if (flag source x.regs) + one_if (latches source (boundary program arrivals x))
+        ≡ one_if (flag source (boundary program arrivals x).after.regs) + one_if (clears source (boundary program arrivals x))
+ledger_of program arrivals x source same =
+    let step : Step = boundary program arrivals x in
+    let latched : one_if (flag source x.regs) + one_if (latches source step) ≡ one_if (flag source step.arrived.regs) = flag-latched source arrivals x in
+    let after : one_if (flag source step.after.regs) ≡ one_if (flag source step.arrived.regs) = ap one_if same in
+    let none : one_if (clears source step) ≡ 0 = ap one_if (not_cleared source step same) in
+    omega (arith, latched, after, none)
+
+cleared : (source : Source) (step : Step) → flag source step.arrived.regs ≡ true → flag source step.after.regs ≡ false → clears source step ≡ true
+cleared source step was now = λ i. was i && not (now i)
+
+still_set : (arrives is_set : Bool) → is_set ≡ true → (arrives || is_set) ≡ true
+still_set true is_set e = refl
+still_set false is_set e = e
+
+grown : (c : Counter) → c.step < 256 → (x : Byte) → num (bits (num (bits c.step) + num x)) ≡ (num x + c.step) % 256
+grown c small x =
+    let step : num (bits c.step) ≡ c.step % 256 = num-bits c.step in
+    num-bits (num (bits c.step) + num x) ∙ (let e : (num (bits c.step) + num x) % 256 ≡ (num x + c.step) % 256 = omega (arith, step, small) in e)
+
+module _ (c : Counter) (fine : IsCounter c) (target : Reg) (is_aimed : Aimed c.setup target) where
+  abbrev step_from : Sources → Chip → Step
+  step_from arrivals x = boundary (program_of (image_of c)) arrivals x
+
+  values_of : (place : Place) (x : Chip) (step : Step) → Stays c target place x → Runs c place x step → byte_at step.after state_byte ≡ value_after c place (byte_at x state_byte)
+  values_of Rests x step h r = ap (λ (memory : ℕ → Byte). num (memory state_byte)) r.plain
+  values_of Clears x step h r = ap (λ (memory : ℕ → Byte). num (memory state_byte)) r.plain
+  values_of Loads x step h r = ap (λ (memory : ℕ → Byte). num (memory state_byte)) r.plain
+  values_of Adds x step h r = ap (λ (memory : ℕ → Byte). num (memory state_byte)) r.plain
+  values_of Opens x step h r = ap (λ (memory : ℕ → Byte). num (memory state_byte)) r.plain ∙ ap num h.w ∙ grown c fine.step (x.regs.plain state_byte)
+  values_of Commits x step h r = ap (λ (memory : ℕ → Byte). num (memory state_byte)) r.plain
+  values_of Returns x step h r = ap (λ (memory : ℕ → Byte). num (memory state_byte)) r.plain
+
+  puts_of : (place : Place) (x : Chip) (step : Step) → Stays c target place x → Runs c place x step → put_by step.port ≡ puts_at c place (byte_at x state_byte)
+  puts_of Rests x step h r = ap put_by r.port
+  puts_of Clears x step h r = ap put_by r.port
+  puts_of Loads x step h r = ap put_by r.port
+  puts_of Adds x step h r = ap put_by r.port
+  puts_of Opens x step h r = ap put_by r.port
+  puts_of Commits x step h r = ap put_by r.port ∙ ap (λ w. put_by (Some (record { port = c.port; byte = num w }))) h.w
+  puts_of Returns x step h r = ap put_by r.port
+
+  -- The flag: it is cleared by the instruction that clears it, and there alone.
+  clears_of : (place : Place) (x : Chip) (arrivals : Sources) → Stays c target place x → Runs c place x (step_from arrivals x) → clears c.source (step_from arrivals x) ≡ is_clearing place
+  clears_of Clears x arrivals h r = cleared c.source (step_from arrivals x) (flag-arrived c.source arrivals x.regs ∙ still_set (arrivals c.source) (flag c.source x.regs) (h.flagged refl)) r.flags
+  clears_of Rests x arrivals h r = not_cleared c.source (step_from arrivals x) r.flags
+  clears_of Loads x arrivals h r = not_cleared c.source (step_from arrivals x) r.flags
+  clears_of Adds x arrivals h r = not_cleared c.source (step_from arrivals x) r.flags
+  clears_of Opens x arrivals h r = not_cleared c.source (step_from arrivals x) r.flags
+  clears_of Commits x arrivals h r = not_cleared c.source (step_from arrivals x) r.flags
+  clears_of Returns x arrivals h r = not_cleared c.source (step_from arrivals x) r.flags
+
+  abbrev Ledger : Chip → Step → Type 0
+  Ledger x step = one_if (flag c.source x.regs) + one_if (latches c.source step) ≡ one_if (flag c.source step.after.regs) + one_if (clears c.source step)
+
+  ledger_at : (place : Place) (x : Chip) (arrivals : Sources) → Stays c target place x → Runs c place x (step_from arrivals x) → Ledger x (step_from arrivals x)
+  ledger_at Clears x arrivals h r =
+      let step : Step = step_from arrivals x in
+      let latched : one_if (flag c.source x.regs) + one_if (latches c.source step) ≡ one_if (flag c.source step.arrived.regs) = flag-latched c.source arrivals x in
+      let was : one_if (flag c.source step.arrived.regs) ≡ 1 = ap one_if (flag-arrived c.source arrivals x.regs ∙ still_set (arrivals c.source) (flag c.source x.regs) (h.flagged refl)) in
+      let now : one_if (flag c.source step.after.regs) ≡ 0 = ap one_if r.flags in
+      let one : one_if (clears c.source step) ≡ 1 = ap one_if (clears_of Clears x arrivals h r) in
+      omega (arith, latched, was, now, one)
+  ledger_at Rests x arrivals h r = ledger_of (program_of (image_of c)) arrivals x c.source r.flags
+  ledger_at Loads x arrivals h r = ledger_of (program_of (image_of c)) arrivals x c.source r.flags
+  ledger_at Adds x arrivals h r = ledger_of (program_of (image_of c)) arrivals x c.source r.flags
+  ledger_at Opens x arrivals h r = ledger_of (program_of (image_of c)) arrivals x c.source r.flags
+  ledger_at Commits x arrivals h r = ledger_of (program_of (image_of c)) arrivals x c.source r.flags
+  ledger_at Returns x arrivals h r = ledger_of (program_of (image_of c)) arrivals x c.source r.flags
+
+  -- A step that runs the place's instruction, where nothing is taken.
+  run_facts : (place : Place) (x : Chip) (arrivals : Sources) → Stays c target place x → Runs c place x (step_from arrivals x)
+      → false ≡ (rests place && flag c.source (step_from arrivals x).arrived.regs) → Facts c place x (step_from arrivals x)
+  run_facts place x arrivals h r none = record {
+    takes_when = ap is_taking r.did ∙ none;
+    opens_when = ap (is_run_at open_address) r.did ∙ ap (λ a. a == 7) h.pc ∙ opens_there c place;
+    commits_when = ap (is_run_at commit_address) r.did ∙ ap (λ a. a == 8) h.pc ∙ commits_there c place;
+    clears_when = clears_of place x arrivals h r;
+    on_when = r.on;
+    hears_when = r.hears;
+    values = values_of place x (step_from arrivals x) h r;
+    puts = puts_of place x (step_from arrivals x) h r;
+    ledger = ledger_at place x arrivals h r;
+    goes_on = ap is_stop r.did;
+    listed = subst (Listed c) (sym r.wrote) (place_listed c place fine.port);
+  }
+
+  take_facts : (x : Chip) (arrivals : Sources) → Takes c x (step_from arrivals x) → flag c.source (step_from arrivals x).arrived.regs ≡ true → Facts c Rests x (step_from arrivals x)
+  take_facts x arrivals t is_set = record {
+    takes_when = ap is_taking t.did ∙ sym is_set;
+    opens_when = ap (is_run_at open_address) t.did;
+    commits_when = ap (is_run_at commit_address) t.did;
+    clears_when = not_cleared c.source (step_from arrivals x) t.flags;
+    on_when = t.on;
+    hears_when = t.hears;
+    values = ap (λ (memory : ℕ → Byte). num (memory state_byte)) t.plain;
+    puts = ap put_by t.port;
+    ledger = ledger_of (program_of (image_of c)) arrivals x c.source t.flags;
+    goes_on = ap is_stop t.did;
+    listed = subst (Listed c) (sym t.wrote) tt;
+  }
+
+  -- Each step from a place has these facts, and leads to the next place.
+  abbrev Led : Place → Sources → Chip → Type 0
+  Led place arrivals x = Facts c place x (step_from arrivals x) × Stays c target (next (counts.takes (step_from arrivals x)) place) (step_from arrivals x).after
+
+  led_on : (place : Place) (x : Chip) (arrivals : Sources) → Stays c target place x → rests place ≡ false → Led place arrivals x
+  led_on place x arrivals h inside =
+      let step : Step = step_from arrivals x in
+      let r = runs_here c fine target is_aimed place x arrivals h (silent_here c fine target is_aimed place x arrivals h inside) in
+      let none : false ≡ (rests place && flag c.source step.arrived.regs) = ap (λ b. b && flag c.source step.arrived.regs) (sym inside) in
+      (run_facts place x arrivals h r none, subst (λ b. Stays c target (next b place) step.after) (sym (ap is_taking r.did)) (after_run c fine target is_aimed place x step h r))
+
+  led_by : (x : Chip) (arrivals : Sources) → Stays c target Rests x → (is_set : Bool) → flag c.source (arrived arrivals x.regs) ≡ is_set → Led Rests arrivals x
+  led_by x arrivals h true e =
+      let step : Step = step_from arrivals x in
+      let t = takes_here c fine target is_aimed x arrivals h (request_here c fine target is_aimed x arrivals h ∙ e) in
+      (take_facts x arrivals t e, subst (λ b. Stays c target (next b Rests) step.after) (sym (ap is_taking t.did)) (after_taking c fine target is_aimed x step h t e))
+  led_by x arrivals h false e =
+      let step : Step = step_from arrivals x in
+      let r = runs_here c fine target is_aimed Rests x arrivals h (request_here c fine target is_aimed x arrivals h ∙ e) in
+      (run_facts Rests x arrivals h r (sym e), subst (λ b. Stays c target (next b Rests) step.after) (sym (ap is_taking r.did)) (after_run c fine target is_aimed Rests x step h r))
+
+  pub led : (place : Place) (x : Chip) (arrivals : Sources) → Stays c target place x → Led place arrivals x
+  led Rests x arrivals h = led_by x arrivals h (flag c.source (arrived arrivals x.regs)) refl
+  led Clears x arrivals h = led_on Clears x arrivals h refl
+  led Loads x arrivals h = led_on Loads x arrivals h refl
+  led Adds x arrivals h = led_on Adds x arrivals h refl
+  led Opens x arrivals h = led_on Opens x arrivals h refl
+  led Commits x arrivals h = led_on Commits x arrivals h refl
+  led Returns x arrivals h = led_on Returns x arrivals h refl

@@ -1,2 +1,0 @@
-//! The compiled code of a counter on the chip: each of its runs keeps what firmware promises.
-#![tactic(auto)]
