@@ -54,36 +54,3 @@ impl Cpu {
         }
     }
 }
-
-#[cfg(test)]
-mod tests {
-    use super::*;
-    use pic_isa::Dest;
-    use pic_regs::Start;
-
-    // A chip at power-on whose STATUS is 1Dh, with W as given.
-    fn started(w: u8) -> Cpu {
-        Cpu::power_on(&Start {
-            ram: [0x00; 368],
-            w,
-            flags: 0x05,
-        })
-    }
-
-    #[test]
-    fn keeps_status_over_a_saving(rt: HostRuntime) {
-        let mut cpu = started(0x00);
-        let f = 0x03;
-        assert!(rt; cpu.exec(&Instr::Swapf { f, d: Dest::W }).is_some() && cpu.w() == 0xD1);
-        assert!(rt; cpu.exec(&Instr::Movwf { f: 0x7D }).is_some());
-        assert!(rt;
-            cpu.exec(&Instr::Swapf {
-                f: 0x7D,
-                d: Dest::W
-            })
-            .is_some()
-        );
-        assert!(rt; cpu.exec(&Instr::Movwf { f }).is_some() && cpu.regs().status() == 0x1D);
-        assert!(rt; cpu.exec(&Instr::Sleep).is_none() && cpu.pc() == 4);
-    }
-}
