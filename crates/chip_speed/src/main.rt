@@ -3,8 +3,11 @@
 //! how fast the simulator is.
 #![tactic(auto)]
 
-ghost use Rattle.std.specs.Prelude.{◌≤◌, IfOk, length};
+ghost use Rattle.std.specs.Prelude.{◌≡◌, ◌≤◌, IfOk, length};
 ghost use Rattle.hex_file.specs.Written.{IsWritable};
+ghost use Rattle.pic_regs.specs.Arrivals.{set_of};
+ghost use Rattle.pic_machine.specs.Run.{after};
+ghost use Rattle.pic_machine.specs.State.{chip_of, memory_of};
 
 use anyhow::{Context, Result};
 use frp_tree::List;
@@ -75,8 +78,11 @@ fn image(alloc: Global, program: &[u16]) -> Result<Image, AllocError>
     })
 }
 
-fn run(chip: &mut Chip, steps: u32) {
-    for _ in 0..steps {
+// So many steps with no arrivals.
+fn run(chip: &mut Chip, steps: u32)
+    ensures { chip_of chip.new ≡ after (memory_of chip.old) (chip_of chip.old) (λ n. set_of 0x000) steps }
+{
+    for _step in 0..steps {
         let _ = chip.step(0x000);
     }
 }
