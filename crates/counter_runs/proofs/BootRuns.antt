@@ -81,6 +81,10 @@ state_still (Some s) target old new is_aimed there stores = state_stays s.regist
 not_twice : (set_up : Bool) (puts : List PortWrite) → set_up ≡ false → cond set_up puts [] ≡ []
 not_twice set_up puts e = ap (λ b. cond b puts []) e
 
+-- The steps up to the ready boundary.
+abbrev pub boot_steps : Counter → ℕ
+boot_steps c = length (running_order (kind_of c.setup) (is_peripheral c.source))
+
 -- A run of a counter's image.
 abbrev pub chip_at : Counter → Start → List Sources → ℕ → Chip
 chip_at c start list n = after (program_of (image_of c)) (power_on start) (arrivals_of list) n
@@ -122,14 +126,7 @@ module _ (c : Counter) (fine : IsCounter c) (start : Start) (list : List Sources
   keeps_state StoresInit st old new there cells before e = ap (λ (memory : ℕ → Byte). memory state_byte) cells.0
   keeps_state StoresSetup st old new there cells before e = state_still c.setup target old new is_aimed there cells ∙ before e
   keeps_state (At place) st old new there cells before e = absurd cc
-  keeps_state LoadsInit st old new there cells before e = ap (λ (memory : ℕ → Byte). memory state_byte) cells.0 ∙ before e
-  keeps_state LoadsSetup st old new there cells before e = ap (λ (memory : ℕ → Byte). memory state_byte) cells.0 ∙ before e
-  keeps_state ChoosesHigh st old new there cells before e = ap (λ (memory : ℕ → Byte). memory state_byte) cells.0 ∙ before e
-  keeps_state EnablesHigh st old new there cells before e = ap (λ (memory : ℕ → Byte). memory state_byte) cells.0 ∙ before e
-  keeps_state ChoosesLow st old new there cells before e = ap (λ (memory : ℕ → Byte). memory state_byte) cells.0 ∙ before e
-  keeps_state Enables st old new there cells before e = ap (λ (memory : ℕ → Byte). memory state_byte) cells.0 ∙ before e
-  keeps_state TurnsOn st old new there cells before e = ap (λ (memory : ℕ → Byte). memory state_byte) cells.0 ∙ before e
-  keeps_state Jumps st old new there cells before e = ap (λ (memory : ℕ → Byte). memory state_byte) cells.0 ∙ before e
+  keeps_state _ st old new there cells before e = ap (λ (memory : ℕ → Byte). memory state_byte) cells.0 ∙ before e
 
   same_cells : (old new : Registers) → (new.plain ≡ old.plain) × (new.tris ≡ old.tris) → Stands target (byte_of c.setup) old → Stands target (byte_of c.setup) new
   same_cells old new cells stands = stands_still c.setup target old new is_aimed cells.1 (λ b other. ap (λ (memory : ℕ → Byte). memory b) cells.0) stands
@@ -140,14 +137,7 @@ module _ (c : Counter) (fine : IsCounter c) (start : Start) (list : List Sources
       stands_still c.setup target old new is_aimed cells.1 (λ b other. ap (λ (memory : ℕ → Byte). memory b) cells.0 ∙ ap (λ t. cond t (bits c.init) (old.plain b)) other) (before e)
   keeps_setup StoresSetup st old new there cells before e = stands_stored c.setup target old new is_aimed cells
   keeps_setup (At place) st old new there cells before e = absurd cc
-  keeps_setup LoadsInit st old new there cells before e = same_cells old new cells (before e)
-  keeps_setup LoadsSetup st old new there cells before e = same_cells old new cells (before e)
-  keeps_setup ChoosesHigh st old new there cells before e = same_cells old new cells (before e)
-  keeps_setup EnablesHigh st old new there cells before e = same_cells old new cells (before e)
-  keeps_setup ChoosesLow st old new there cells before e = same_cells old new cells (before e)
-  keeps_setup Enables st old new there cells before e = same_cells old new cells (before e)
-  keeps_setup TurnsOn st old new there cells before e = same_cells old new cells (before e)
-  keeps_setup Jumps st old new there cells before e = same_cells old new cells (before e)
+  keeps_setup _ st old new there cells before e = same_cells old new cells (before e)
 
   abbrev all_puts : List PortWrite
   all_puts = setup_puts (programs.program_of c)
@@ -155,15 +145,7 @@ module _ (c : Counter) (fine : IsCounter c) (start : Start) (list : List Sources
   put_so_far : (s : Spot) (st : Done) → is_there c s ≡ true → set_up_once s st ≡ false → cond st.set_up all_puts [] ++ put_by (shown_at c target s) ≡ cond (does s st).set_up all_puts []
   put_so_far StoresSetup st there once = ap (λ b. cond b all_puts [] ++ put_by (shown_at c target StoresSetup)) once ∙ puts_of_setup c.setup target is_aimed there
   put_so_far (At place) st there once = absurd cc
-  put_so_far LoadsInit st there once = append-nil (cond st.set_up all_puts [])
-  put_so_far StoresInit st there once = append-nil (cond st.set_up all_puts [])
-  put_so_far LoadsSetup st there once = append-nil (cond st.set_up all_puts [])
-  put_so_far ChoosesHigh st there once = append-nil (cond st.set_up all_puts [])
-  put_so_far EnablesHigh st there once = append-nil (cond st.set_up all_puts [])
-  put_so_far ChoosesLow st there once = append-nil (cond st.set_up all_puts [])
-  put_so_far Enables st there once = append-nil (cond st.set_up all_puts [])
-  put_so_far TurnsOn st there once = append-nil (cond st.set_up all_puts [])
-  put_so_far Jumps st there once = append-nil (cond st.set_up all_puts [])
+  put_so_far _ st there once = append-nil (cond st.set_up all_puts [])
 
   boot_next : (s : Spot) (st : Done) (address n : ℕ) → BootAt c start list target st address n → Boots c target s st (chip_at c start list n) (log_of c start list n)
       → is_there c s ≡ true → set_up_once s st ≡ false → BootAt c start list target (does s st) (address_after s address) (suc n)
@@ -213,15 +195,12 @@ module _ (c : Counter) (fine : IsCounter c) (start : Start) (list : List Sources
   begins : BootAt c start list target at_first 0 0
   begins = record { known = refl; pc = refl; stored = λ e. absurd cc; stands = λ e. absurd cc; puts = refl }
 
-  -- The steps of the boot, and the ready boundary.
-  abbrev pub boot_steps : ℕ
-  boot_steps = length (running_order (kind_of c.setup) (is_peripheral c.source))
-
-  pub each_step : (n : ℕ) → n < boot_steps → Along n
+  -- Each step of the boot, and the ready boundary.
+  pub each_step : (n : ℕ) → n < boot_steps c → Along n
   each_step n h = along (running_order (kind_of c.setup) (is_peripheral c.source)) at_first 0 0 (way (kind_of c.setup) (is_peripheral c.source)) begins n (omega arith) (omega (arith, h))
 
-  pub at_ready : BootAt c start list target (at_last (kind_of c.setup) (is_peripheral c.source)) (ready_at (kind_of c.setup) (is_peripheral c.source)) boot_steps
+  pub at_ready : BootAt c start list target (at_last (kind_of c.setup) (is_peripheral c.source)) (ready_at (kind_of c.setup) (is_peripheral c.source)) (boot_steps c)
   at_ready =
-      let count : 0 + boot_steps ≡ boot_steps = omega arith in
+      let count : 0 + boot_steps c ≡ boot_steps c = omega arith in
       subst (λ m. BootAt c start list target (at_last (kind_of c.setup) (is_peripheral c.source)) (ready_at (kind_of c.setup) (is_peripheral c.source)) m) count
           (ends (running_order (kind_of c.setup) (is_peripheral c.source)) at_first 0 0 (way (kind_of c.setup) (is_peripheral c.source)) begins)

@@ -28,14 +28,14 @@ use Rattle.stack_bound.proofs.Heard.{chip_after_is_of_the_run}
 use Rattle.counter_runs.proofs.Story.{Place, Rests, Clears, Loads, Adds, Opens, Commits, Returns, past, Story}
 use Rattle.counter_runs.proofs.Spots.{byte_of}
 use Rattle.counter_runs.proofs.Targets.{Aimed, aimed, Stands}
-use Rattle.counter_runs.proofs.BootRuns.{chip_at, log_of, Along, each_step}
+use Rattle.counter_runs.proofs.BootRuns.{chip_at, log_of, boot_steps, Along, each_step}
 use Rattle.counter_runs.proofs.Writes.{Listed, boot_listed}
 use Rattle.counter_runs.proofs.PlaceSteps.{depth_at}
 use Rattle.counter_runs.proofs.PlaceRuns.{Stays}
 use Rattle.counter_runs.proofs.PlaceFacts.{not_cleared}
 use Rattle.counter_runs.proofs.Follows.{ready_from, shown_at}
 use Rattle.counter_runs.proofs.Past.{each_moment, from_ready}
-use Rattle.counter_runs.proofs.Told.{boot_steps, place_in, stays, facts, story, story_is_ready}
+use Rattle.counter_runs.proofs.Told.{place_in, stays, facts, story, story_is_ready}
 
 -- The byte of the only setup that names an address.
 its_setup : (s : SetupAt) (a byte : ℕ) → IsSetup s → last_setup (setups_of (Some s)) a ≡ Some byte → (s.address ≡ a) × (s.byte ≡ byte)
@@ -84,7 +84,7 @@ module _ (c : Counter) (fine : IsCounter c) (start : Start) (list : List Sources
   same n = chip_after_is_of_the_run (program_of (image_of c)) (power_on start) (arrivals_of list) n
 
   pub goes_on : (k : ℕ) → is_stop (the_log k).did ≡ false
-  goes_on = each_moment (boot_steps c) (λ n. is_stop (the_log n).did ≡ false) (λ n less. ap is_stop (way n less).step.did) (λ k. (facts c fine start list k).goes_on)
+  goes_on = each_moment (boot_steps c) (λ n. is_stop (the_log n).did ≡ false) (λ n less. (way n less).step.stop) (λ k. (facts c fine start list k).goes_on)
 
   pub writes_listed : (k : ℕ) → Listed c (the_log k).wrote
   writes_listed = each_moment (boot_steps c) (λ n. Listed c (the_log n).wrote)

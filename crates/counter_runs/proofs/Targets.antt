@@ -36,7 +36,7 @@ Aimed (Some s) target = (reg_at s.address ≡ target) × Suits s.register s.addr
 
 pub aimed : (setup : Option SetupAt) → IfSome setup IsSetup → (target : Reg) × Aimed setup target
 aimed None fine = (Absent, refl)
-aimed (Some s) fine = let may = may_set_up s.register s.address fine.0 in (may.0, (may.1, may.2, fine.1, setup_below (Some s) fine))
+aimed (Some s) fine = (reg_at s.address, (refl, may_set_up s.register s.address fine.0, fine.1, setup_below (Some s) fine))
 
 pub suits_target : (name : List ℕ) (a : ℕ) (target : Reg) → Suits name a target → is_target target ≡ true
 suits_target name a (Port n) suits = refl
@@ -79,29 +79,12 @@ enable_reached : (source : Source) (c : Counter) (target : Reg) (st : Done) (x :
     ≡ register_of (record c { source = source }) target EnablesHigh
 enable_reached T0 c target st x arrivals e = absurd cc
 enable_reached Int c target st x arrivals e = absurd cc
-enable_reached Psp c target st x arrivals e = refl
-enable_reached Ad c target st x arrivals e = refl
-enable_reached Ssp c target st x arrivals e = refl
-enable_reached Ccp1 c target st x arrivals e = refl
-enable_reached Tmr2 c target st x arrivals e = refl
-enable_reached Tmr1 c target st x arrivals e = refl
-enable_reached Ee c target st x arrivals e = refl
-enable_reached Bcl c target st x arrivals e = refl
-enable_reached Ccp2 c target st x arrivals e = refl
+enable_reached _ c target st x arrivals e = refl
 
 intcon_reached : (source : Source) (c : Counter) (st : Done) (x : Chip) (arrivals : Sources) →
     operand (field (instruction (record c { source = source }) Enables)) (arrived arrivals (before (record c { source = source }) Enables st x).regs) ≡ Intcon
 intcon_reached T0 c st x arrivals = refl
-intcon_reached Int c st x arrivals = refl
-intcon_reached Psp c st x arrivals = refl
-intcon_reached Ad c st x arrivals = refl
-intcon_reached Ssp c st x arrivals = refl
-intcon_reached Ccp1 c st x arrivals = refl
-intcon_reached Tmr2 c st x arrivals = refl
-intcon_reached Tmr1 c st x arrivals = refl
-intcon_reached Ee c st x arrivals = refl
-intcon_reached Bcl c st x arrivals = refl
-intcon_reached Ccp2 c st x arrivals = refl
+intcon_reached _ c st x arrivals = refl
 
 -- A spot of the kinds that a boot of this shape has.
 abbrev pub belongs : Kind → Bool → Spot → Bool
@@ -117,17 +100,11 @@ is_there c s = belongs (kind_of c.setup) (is_peripheral c.source) s
 
 pub reaches : (c : Counter) (target : Reg) (s : Spot) (st : Done) (x : Chip) (arrivals : Sources) → Aimed c.setup target → is_there c s ≡ true
     → operand (field (instruction c s)) (arrived arrivals (before c s st x).regs) ≡ register_of c target s
-reaches c target LoadsInit st x arrivals is_aimed there = refl
-reaches c target StoresInit st x arrivals is_aimed there = refl
-reaches c target LoadsSetup st x arrivals is_aimed there = refl
 reaches c target StoresSetup st x arrivals is_aimed there = target_of_setup c.setup c target st x arrivals is_aimed there
-reaches c target ChoosesHigh st x arrivals is_aimed there = refl
 reaches c target EnablesHigh st x arrivals is_aimed there = enable_reached c.source c target st x arrivals there
-reaches c target ChoosesLow st x arrivals is_aimed there = refl
 reaches c target Enables st x arrivals is_aimed there = intcon_reached c.source c st x arrivals
-reaches c target TurnsOn st x arrivals is_aimed there = refl
-reaches c target Jumps st x arrivals is_aimed there = refl
 reaches c target (At place) st x arrivals is_aimed there = absurd cc
+reaches c target _ st x arrivals is_aimed there = refl
 
 target_fits : (setup : Option SetupAt) (target : Reg) → Aimed setup target → has_setup (kind_of setup) ≡ true → is_target target ≡ true
 target_fits None target is_aimed there = absurd cc

@@ -31,14 +31,10 @@ use Rattle.counter_runs.proofs.Story.{Place, Rests, next, past, rests, value_aft
 use Rattle.counter_runs.proofs.Spots.{Kind, NoSetup, LowSetup, HighSetup, running_order, kind_of, byte_of, ready_at, ready_is}
 use Rattle.counter_runs.proofs.Targets.{Aimed, aimed, has_setup, Stands}
 use Rattle.counter_runs.proofs.BootSteps.{known}
-use Rattle.counter_runs.proofs.BootRuns.{chip_at, log_of, is_special, at_last, BootAt, Along, each_step, at_ready}
+use Rattle.counter_runs.proofs.BootRuns.{chip_at, log_of, is_special, at_last, boot_steps, BootAt, Along, each_step, at_ready}
 use Rattle.counter_runs.proofs.PlaceSteps.{held, depth_at}
 use Rattle.counter_runs.proofs.PlaceRuns.{Stays, all_done, address_at}
 use Rattle.counter_runs.proofs.PlaceFacts.{Facts, led, ledger_of, not_cleared}
-
--- The steps up to the ready boundary.
-abbrev pub boot_steps : Counter → ℕ
-boot_steps c = length (running_order (kind_of c.setup) (is_peripheral c.source))
 
 soon : (kind : Kind) (peripheral : Bool) → length (running_order kind peripheral) ≤ 13
 soon NoSetup true = lit≤ tt
@@ -76,16 +72,7 @@ front puts true = (length puts, sym (take-length puts))
 
 flag_first : (source : Source) (start : Start) → flag source (registers_on start) ≡ false
 flag_first T0 start = refl
-flag_first Int start = refl
-flag_first Psp start = refl
-flag_first Ad start = refl
-flag_first Ssp start = refl
-flag_first Ccp1 start = refl
-flag_first Tmr2 start = refl
-flag_first Tmr1 start = refl
-flag_first Ee start = refl
-flag_first Bcl start = refl
-flag_first Ccp2 start = refl
+flag_first _ start = refl
 
 module _ (c : Counter) (fine : IsCounter c) (start : Start) (list : List Sources) where
   abbrev x : ℕ → Chip
@@ -178,10 +165,10 @@ module _ (c : Counter) (fine : IsCounter c) (start : Start) (list : List Sources
     ready = ready;
     ready_is_soon = soon (kind_of c.setup) (is_peripheral c.source);
     not_there = not_there;
-    boot_takes = λ k h. ap is_taking (way k h).step.did;
+    boot_takes = λ k h. (way k h).step.taking;
     boot_is_off = λ k h. (way k h).step.off;
-    boot_opens = λ k h. ap (is_run_at open_address) (way k h).step.did ∙ ap (λ a. a == 7) (way k h).here.pc ∙ (plain k h).1;
-    boot_commits = λ k h. ap (is_run_at commit_address) (way k h).step.did ∙ ap (λ a. a == 8) (way k h).here.pc ∙ (plain k h).2;
+    boot_opens = λ k h. (way k h).step.ran open_address ∙ ap (λ a. a == 7) (way k h).here.pc ∙ (plain k h).1;
+    boot_commits = λ k h. (way k h).step.ran commit_address ∙ ap (λ a. a == 8) (way k h).here.pc ∙ (plain k h).2;
     boot_clears = λ k h. not_cleared c.source (the_log k) ((way k h).step.unchanged c.source);
     boot_puts = λ k h. boot_puts_by k h (cases_lt k ready);
     puts_at_ready = end.puts ∙ all_put c.setup c;

@@ -73,28 +73,11 @@ target_listed (Some s) c target is_aimed there =
 enable_listed : (source : Source) (c : Counter) (target : Reg) → is_peripheral source ≡ true → Listed (record c { source = source }) (written (register_of (record c { source = source }) target EnablesHigh))
 enable_listed T0 c target e = absurd cc
 enable_listed Int c target e = absurd cc
-enable_listed Psp c target e = listed (record c { source = Psp }) (enable_of Psp).address (lit< tt) (enable_written (record c { source = Psp }))
-enable_listed Ad c target e = listed (record c { source = Ad }) (enable_of Ad).address (lit< tt) (enable_written (record c { source = Ad }))
-enable_listed Ssp c target e = listed (record c { source = Ssp }) (enable_of Ssp).address (lit< tt) (enable_written (record c { source = Ssp }))
-enable_listed Ccp1 c target e = listed (record c { source = Ccp1 }) (enable_of Ccp1).address (lit< tt) (enable_written (record c { source = Ccp1 }))
-enable_listed Tmr2 c target e = listed (record c { source = Tmr2 }) (enable_of Tmr2).address (lit< tt) (enable_written (record c { source = Tmr2 }))
-enable_listed Tmr1 c target e = listed (record c { source = Tmr1 }) (enable_of Tmr1).address (lit< tt) (enable_written (record c { source = Tmr1 }))
-enable_listed Ee c target e = listed (record c { source = Ee }) (enable_of Ee).address (lit< tt) (enable_written (record c { source = Ee }))
-enable_listed Bcl c target e = listed (record c { source = Bcl }) (enable_of Bcl).address (lit< tt) (enable_written (record c { source = Bcl }))
-enable_listed Ccp2 c target e = listed (record c { source = Ccp2 }) (enable_of Ccp2).address (lit< tt) (enable_written (record c { source = Ccp2 }))
+enable_listed source c target e = listed (record c { source = source }) (enable_of source).address (lit< tt) (enable_written (record c { source = source }))
 
 flag_listed : (source : Source) (c : Counter) → Listed (record c { source = source }) (wrote_at (record c { source = source }) Clears)
 flag_listed T0 c = listed (record c { source = T0 }) (flag_of T0).address (lit< tt) (flag_written (record c { source = T0 }))
-flag_listed Int c = listed (record c { source = Int }) (flag_of Int).address (lit< tt) (flag_written (record c { source = Int }))
-flag_listed Psp c = listed (record c { source = Psp }) (flag_of Psp).address (lit< tt) (flag_written (record c { source = Psp }))
-flag_listed Ad c = listed (record c { source = Ad }) (flag_of Ad).address (lit< tt) (flag_written (record c { source = Ad }))
-flag_listed Ssp c = listed (record c { source = Ssp }) (flag_of Ssp).address (lit< tt) (flag_written (record c { source = Ssp }))
-flag_listed Ccp1 c = listed (record c { source = Ccp1 }) (flag_of Ccp1).address (lit< tt) (flag_written (record c { source = Ccp1 }))
-flag_listed Tmr2 c = listed (record c { source = Tmr2 }) (flag_of Tmr2).address (lit< tt) (flag_written (record c { source = Tmr2 }))
-flag_listed Tmr1 c = listed (record c { source = Tmr1 }) (flag_of Tmr1).address (lit< tt) (flag_written (record c { source = Tmr1 }))
-flag_listed Ee c = listed (record c { source = Ee }) (flag_of Ee).address (lit< tt) (flag_written (record c { source = Ee }))
-flag_listed Bcl c = listed (record c { source = Bcl }) (flag_of Bcl).address (lit< tt) (flag_written (record c { source = Bcl }))
-flag_listed Ccp2 c = listed (record c { source = Ccp2 }) (flag_of Ccp2).address (lit< tt) (flag_written (record c { source = Ccp2 }))
+flag_listed source c = listed (record c { source = source }) (flag_of source).address (lit< tt) (flag_written (record c { source = source }))
 
 -- In the boot, and behind it.
 pub boot_listed : (c : Counter) (target : Reg) (s : Spot) → Aimed c.setup target → is_there c s ≡ true → Listed c (written (register_of c target s))
