@@ -1,10 +1,8 @@
 -- Each run of a counter's image boots: up to the ready boundary its steps are those of the boot's spots.
-use Rattle.std.specs.Prelude.{ℕ, zero, suc, ◌+◌, ◌<◌, ◌≤◌, Bool, true, false, ◌||◌, ◌==◌, cond, List, [], ◌∷◌, ◌++◌, length, Option, Some, None}
-use Rattle.std.specs.List.{flat_map}
+use Rattle.std.specs.Prelude.{ℕ, suc, ◌+◌, ◌<◌, ◌≤◌, Bool, true, false, ◌||◌, ◌==◌, cond, List, [], ◌∷◌, ◌++◌, length, Option, Some, None}
 use Rattle.std.proofs.Common.{◌≡◌, refl, sym, ap, subst, ◌∙◌, arith, ◌⊎◌, inl, inr}
 use Rattle.std.proofs.lemmas.Bool.{cases_lt}
 use Rattle.std.proofs.lemmas.List.{append-nil}
-use Rattle.frp_tree.specs.declared.syntax.Setup.{Setup}
 use Rattle.pic_isa.specs.declared.instructions.Instr.{Instr}
 use Rattle.pic_isa.specs.Instructions.{instruction_of}
 use Rattle.pic_regs.specs.declared.starts.Start.{Start}
@@ -14,7 +12,6 @@ use Rattle.pic_regs.specs.Registers.{Registers, requested}
 use Rattle.pic_regs.specs.Arrivals.{Sources, arrived}
 use Rattle.pic_machine.specs.declared.steps.PortWrite.{PortWrite}
 use Rattle.pic_machine.specs.Chip.{Chip}
-use Rattle.pic_machine.specs.Boundary.{Step, boundary}
 use Rattle.pic_machine.specs.Exec.{field, operand}
 use Rattle.pic_machine.specs.Run.{Log, program_of, power_on, arrivals_of, after, run}
 use Rattle.pic_machine.proofs.Turns.{running, runs-it}
@@ -25,7 +22,7 @@ use Rattle.firmware.specs.Counters as programs
 use Rattle.firmware.specs.Layout.{state_byte, is_peripheral, image_of}
 use Rattle.stack_bound.specs.Counts.{port_writes, put_by}
 use Rattle.stack_bound.specs.Follows.{setup_puts}
-use Rattle.counter_runs.proofs.Spots.{Kind, NoSetup, LowSetup, HighSetup, Spot, LoadsInit, StoresInit, LoadsSetup, StoresSetup, ChoosesHigh, EnablesHigh, ChoosesLow, Enables, TurnsOn, Jumps, At, kind_of, byte_of, instruction, running_order, standing_order, ready_at, spot_at, found}
+use Rattle.counter_runs.proofs.Spots.{Kind, NoSetup, LowSetup, HighSetup, Spot, StoresInit, StoresSetup, At, kind_of, byte_of, instruction, running_order, standing_order, ready_at, spot_at, found}
 use Rattle.counter_runs.proofs.BootSteps.{Done, Nothing, known, needs, does, before, address_after, register_of, Stores, Cells, Boots, boots, shown_at, silent}
 use Rattle.counter_runs.proofs.Targets.{Aimed, has_setup, belongs, is_there, Stands, reaches, spot_fits, stored_stands, stands_on, state_stays, puts_of_setup}
 
@@ -185,12 +182,12 @@ module _ (c : Counter) (fine : IsCounter c) (start : Start) (list : List Sources
   ends [] st address n its h =
       let stay : n ≡ n + 0 = omega arith in
       subst (λ m. BootAt c start list target (at_last (kind_of c.setup) (is_peripheral c.source)) (ready_at (kind_of c.setup) (is_peripheral c.source)) m) stay
-          (subst (λ a. BootAt c start list target (at_last (kind_of c.setup) (is_peripheral c.source)) a n) its.1 (subst (λ t. BootAt c start list target t address n) its.0 h))
+      (subst (λ a. BootAt c start list target (at_last (kind_of c.setup) (is_peripheral c.source)) a n) its.1 (subst (λ t. BootAt c start list target t address n) its.0 h))
   ends (s ∷ spots) st address n its h =
       let b = boot_step s st address n h its.0 its.1 its.3 in
       let on : suc n + length spots ≡ n + suc (length spots) = omega arith in
       subst (λ m. BootAt c start list target (at_last (kind_of c.setup) (is_peripheral c.source)) (ready_at (kind_of c.setup) (is_peripheral c.source)) m) on
-          (ends spots (does s st) (address_after s address) (suc n) its.5 (boot_next s st address n h b its.3 its.4))
+      (ends spots (does s st) (address_after s address) (suc n) its.5 (boot_next s st address n h b its.3 its.4))
 
   begins : BootAt c start list target at_first 0 0
   begins = record { known = refl; pc = refl; stored = λ e. absurd cc; stands = λ e. absurd cc; puts = refl }
@@ -203,4 +200,4 @@ module _ (c : Counter) (fine : IsCounter c) (start : Start) (list : List Sources
   at_ready =
       let count : 0 + boot_steps c ≡ boot_steps c = omega arith in
       subst (λ m. BootAt c start list target (at_last (kind_of c.setup) (is_peripheral c.source)) (ready_at (kind_of c.setup) (is_peripheral c.source)) m) count
-          (ends (running_order (kind_of c.setup) (is_peripheral c.source)) at_first 0 0 (way (kind_of c.setup) (is_peripheral c.source)) begins)
+      (ends (running_order (kind_of c.setup) (is_peripheral c.source)) at_first 0 0 (way (kind_of c.setup) (is_peripheral c.source)) begins)

@@ -1,25 +1,22 @@
 -- What each instruction of the boot does to a chip of which only what the boot has done is known.
-use Rattle.std.specs.Prelude.{ℕ, zero, suc, ◌+◌, ◌%◌, ◌<◌, Bool, true, false, ◌&&◌, ◌||◌, ◌==◌, Option, Some, None, if◌then◌else◌}
-use Rattle.std.proofs.Common.{◌≡◌, refl, sym, ap, subst, ◌∙◌}
+use Rattle.std.specs.Prelude.{ℕ, ◌+◌, ◌%◌, Bool, true, false, ◌&&◌, ◌==◌, Option, None, if◌then◌else◌}
+use Rattle.std.proofs.Common.{◌≡◌, refl}
 use Rattle.pic_isa.specs.declared.sources.Source.{Source}
 use Rattle.pic_isa.specs.declared.sources.Source.TheVariants.{T0, Int, Psp, Ad, Ssp, Ccp1, Tmr2, Tmr1, Ee, Bcl, Ccp2}
-use Rattle.pic_isa.specs.Sources.{enable_of}
-use Rattle.pic_regs.specs.Bytes.{Byte, bits, num, zeros, updated}
-use Rattle.pic_regs.specs.Map.{Reg, Absent, Status, Intcon, Pie1, Pie2, Port, Tris, Plain, over_tris, lowest, reg_at}
+use Rattle.pic_regs.specs.Bytes.{Byte, bits, zeros, updated}
+use Rattle.pic_regs.specs.Map.{Reg, Absent, Status, Intcon, Pie1, Pie2, Port, Tris, Plain, over_tris}
 use Rattle.pic_regs.specs.Registers.{Registers, flag, requested}
 use Rattle.pic_regs.specs.Arrivals.{Sources, arrived}
 use Rattle.pic_machine.specs.declared.steps.PortWrite.{PortWrite}
-use Rattle.pic_machine.specs.Chip.{Chip, through}
+use Rattle.pic_machine.specs.Chip.{Chip}
 use Rattle.pic_machine.specs.Results.{shown, written}
 use Rattle.pic_machine.specs.Boundary.{Step}
 use Rattle.pic_machine.proofs.Turns.{running}
 use Rattle.firmware.specs.declared.counters.Counter.{Counter}
-use Rattle.firmware.specs.declared.counters.SetupAt.{SetupAt}
 use Rattle.firmware.specs.Layout.{is_peripheral, state_byte}
 use Rattle.stack_bound.specs.Counts.{is_taking, is_run_at, interrupts_on}
 use Rattle.stack_bound.specs.Firmware.{is_stop}
-use Rattle.counter_runs.proofs.Story.{Place}
-use Rattle.counter_runs.proofs.Spots.{Kind, NoSetup, LowSetup, HighSetup, Spot, LoadsInit, StoresInit, LoadsSetup, StoresSetup, ChoosesHigh, EnablesHigh, ChoosesLow, Enables, TurnsOn, Jumps, At, byte_of, address_of, instruction, kind_of}
+use Rattle.counter_runs.proofs.Spots.{Kind, HighSetup, Spot, LoadsInit, StoresInit, LoadsSetup, StoresSetup, ChoosesHigh, EnablesHigh, ChoosesLow, Enables, TurnsOn, Jumps, At, byte_of, instruction, kind_of}
 
 -- PIE1, PIE2 and the enables in INTCON, with the source's alone.
 abbrev pub pie1_of : Source → Byte
@@ -217,7 +214,4 @@ boots c target _ st x arrivals word e = search
 -- Nothing is requested then, with GIE off.
 pub silent : (c : Counter) (s : Spot) (st : Done) (x : Chip) (arrivals : Sources) → requested (arrived arrivals (before c s st x).regs) ≡ false
 silent c StoresInit st x arrivals = refl
-silent c StoresSetup st x arrivals = refl
-silent c EnablesHigh st x arrivals = refl
-silent c Enables st x arrivals = refl
 silent c _ st x arrivals = refl

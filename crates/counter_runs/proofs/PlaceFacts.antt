@@ -1,14 +1,13 @@
 -- What a step behind the boot is, seen through the counts of the promises.
-use Rattle.std.specs.Prelude.{ℕ, zero, suc, ◌+◌, ◌%◌, ◌<◌, ◌≤◌, Bool, true, false, not, ◌&&◌, ◌||◌, ◌==◌, List, [], ◌∷◌, Option, Some, None}
+use Rattle.std.specs.Prelude.{ℕ, ◌+◌, ◌%◌, ◌<◌, Bool, true, false, not, ◌&&◌, ◌||◌, ◌==◌, Some}
 use Rattle.std.proofs.Common.{◌≡◌, refl, sym, ap, subst, ◌∙◌, arith}
 use Rattle.pic_isa.specs.declared.sources.Source.{Source}
 use Rattle.pic_regs.specs.Bytes.{Byte, bits, num, one_if}
 use Rattle.pic_regs.specs.Map.{Reg}
-use Rattle.pic_regs.specs.Registers.{Registers, flag}
+use Rattle.pic_regs.specs.Registers.{flag}
 use Rattle.pic_regs.specs.Arrivals.{Sources, arrived}
 use Rattle.pic_regs.proofs.ArrivalFacts.{flag-arrived}
 use Rattle.pic_regs.proofs.ByteFacts.{num-bits}
-use Rattle.pic_machine.specs.declared.steps.PortWrite.{PortWrite}
 use Rattle.pic_machine.specs.Chip.{Chip}
 use Rattle.pic_machine.specs.Boundary.{Step, boundary}
 use Rattle.pic_machine.specs.Run.{program_of}
@@ -16,12 +15,12 @@ use Rattle.pic_machine.proofs.Turns.{flag-latched}
 use Rattle.firmware.specs.declared.counters.Counter.{Counter}
 use Rattle.firmware.specs.Counters.{IsCounter}
 use Rattle.firmware.specs.Layout.{state_byte, is_peripheral, image_of, ready_address, open_address, commit_address}
-use Rattle.stack_bound.specs.Counts.{is_taking, is_run_at, ran_at, interrupts_on, latches, clears, put_by} 
+use Rattle.stack_bound.specs.Counts.{is_taking, is_run_at, ran_at, interrupts_on, latches, clears, put_by}
 use Rattle.stack_bound.specs.Counts as counts
 use Rattle.stack_bound.specs.MapNames.{byte_at}
 use Rattle.stack_bound.specs.Firmware.{is_stop}
 use Rattle.stack_bound.specs.Urgent.{is_heard}
-use Rattle.counter_runs.proofs.Story.{Place, Rests, Clears, Loads, Adds, Opens, Commits, Returns, rests, is_clearing, is_opening, is_committing, next, event_in_map, value_after, puts_at}
+use Rattle.counter_runs.proofs.Story.{Place, Rests, Clears, Opens, Commits, rests, is_clearing, is_opening, is_committing, next, event_in_map, value_after, puts_at}
 use Rattle.counter_runs.proofs.Spots.{Kind, NoSetup, LowSetup, HighSetup, kind_of, ready_at, ready_is}
 use Rattle.counter_runs.proofs.Targets.{Aimed}
 use Rattle.counter_runs.proofs.Writes.{Listed, place_listed}
@@ -75,7 +74,7 @@ not_cleared source step same = ap (λ b. flag source step.arrived.regs && not b)
 pub ledger_of : (program : ℕ → ℕ) (arrivals : Sources) (x : Chip) (source : Source) →
     flag source (boundary program arrivals x).after.regs ≡ flag source (boundary program arrivals x).arrived.regs
     → one_if (flag source x.regs) + one_if (latches source (boundary program arrivals x))
-        ≡ one_if (flag source (boundary program arrivals x).after.regs) + one_if (clears source (boundary program arrivals x))
+    ≡ one_if (flag source (boundary program arrivals x).after.regs) + one_if (clears source (boundary program arrivals x))
 ledger_of program arrivals x source same =
     let step : Step = boundary program arrivals x in
     let latched : one_if (flag source x.regs) + one_if (latches source step) ≡ one_if (flag source step.arrived.regs) = flag-latched source arrivals x in

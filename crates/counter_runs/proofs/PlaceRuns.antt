@@ -1,30 +1,27 @@
 -- Each run of a counter's image from its ready boundary on: where control is, and what holds there.
-use Rattle.std.specs.Prelude.{ℕ, zero, suc, ◌+◌, ◌*◌, ◌%◌, ◌<◌, ◌≤◌, Bool, true, false, not, ◌&&◌, ◌||◌, ◌==◌, cond, List, [], ◌∷◌, Option, Some, None}
+use Rattle.std.specs.Prelude.{ℕ, ◌+◌, ◌%◌, Bool, true, false, ◌==◌, cond, Option, Some}
 use Rattle.std.proofs.Common.{◌≡◌, refl, sym, ap, subst, ◌∙◌, arith}
-use Rattle.std.proofs.lemmas.Bool.{ne_eqb}
 use Rattle.pic_isa.specs.declared.instructions.Instr.{Instr}
 use Rattle.pic_isa.specs.Instructions.{instruction_of}
 use Rattle.pic_isa.specs.declared.sources.Source.{Source}
-use Rattle.pic_isa.specs.declared.sources.Source.TheVariants.{T0, Int, Psp, Ad, Ssp, Ccp1, Tmr2, Tmr1, Ee, Bcl, Ccp2}
-use Rattle.pic_regs.specs.declared.starts.Start.{Start}
+use Rattle.pic_isa.specs.declared.sources.Source.TheVariants.{T0}
 use Rattle.pic_regs.specs.Bytes.{Byte, bits, num}
 use Rattle.pic_regs.specs.Map.{Reg}
-use Rattle.pic_regs.specs.Registers.{Registers, flag, requested}
+use Rattle.pic_regs.specs.Registers.{flag, requested}
 use Rattle.pic_regs.specs.Arrivals.{Sources, arrived}
 use Rattle.pic_machine.specs.Chip.{Chip}
 use Rattle.pic_machine.specs.Boundary.{Step, boundary}
 use Rattle.pic_machine.specs.Exec.{field, operand}
-use Rattle.pic_machine.specs.Run.{Log, program_of, power_on, arrivals_of, after, run}
+use Rattle.pic_machine.specs.Run.{program_of}
 use Rattle.pic_machine.proofs.Turns.{running, taking, runs-it, takes-it}
 use Rattle.firmware.specs.declared.counters.Counter.{Counter}
 use Rattle.firmware.specs.Counters.{IsCounter}
 use Rattle.firmware.specs.Layout.{state_byte, is_peripheral, image_of, ready_address}
-use Rattle.stack_bound.specs.Counts as counts
-use Rattle.counter_runs.proofs.Story.{Place, Rests, Clears, Loads, Adds, Opens, Commits, Returns, rests, is_clearing, next, past}
-use Rattle.counter_runs.proofs.Spots.{Kind, NoSetup, LowSetup, HighSetup, Spot, At, byte_of, kind_of, instruction, instruction_at, standing_order, ready_at, ready_is, spot_at, found}
+use Rattle.counter_runs.proofs.Story.{Place, Rests, Clears, Loads, Adds, Opens, Commits, Returns, rests, is_clearing, next}
+use Rattle.counter_runs.proofs.Spots.{Kind, NoSetup, LowSetup, HighSetup, Spot, At, byte_of, kind_of, instruction_at, standing_order, ready_at, ready_is, spot_at, found}
 use Rattle.counter_runs.proofs.Targets.{Aimed, Stands}
-use Rattle.counter_runs.proofs.BootSteps.{known, pie1_of, pie2_of}
-use Rattle.counter_runs.proofs.BootRuns.{chip_at, log_of, stands_still, at_last, BootAt, boot_steps, at_ready}
+use Rattle.counter_runs.proofs.BootSteps.{known}
+use Rattle.counter_runs.proofs.BootRuns.{stands_still, at_last}
 use Rattle.counter_runs.proofs.PlaceSteps.{held, register_at, Runs, Takes, runs, takes, request, silent, reaches}
 
 -- The address of a place.

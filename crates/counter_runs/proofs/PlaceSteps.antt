@@ -1,11 +1,11 @@
 -- What each place behind the boot does to a chip of which only the bank, the enables, GIE and the depth are known.
-use Rattle.std.specs.Prelude.{ℕ, zero, suc, ◌+◌, ◌%◌, ◌*◌, ◌<◌, Bool, true, false, ◌&&◌, ◌||◌, ◌==◌, Option, Some, None}
-use Rattle.std.proofs.Common.{◌≡◌, refl, sym, ap, subst, ◌∙◌, arith}
+use Rattle.std.specs.Prelude.{ℕ, zero, suc, ◌+◌, ◌%◌, ◌<◌, Bool, true, false, ◌||◌, ◌==◌, Option, None}
+use Rattle.std.proofs.Common.{◌≡◌, refl, arith}
 use Rattle.pic_isa.specs.declared.sources.Source.{Source}
-use Rattle.pic_isa.specs.declared.sources.Source.TheVariants.{T0, Int, Psp, Ad, Ssp, Ccp1, Tmr2, Tmr1, Ee, Bcl, Ccp2}
+use Rattle.pic_isa.specs.declared.sources.Source.TheVariants.{T0, Int, Ee, Bcl, Ccp2}
 use Rattle.pic_regs.specs.Bytes.{Byte, bits, num, updated}
-use Rattle.pic_regs.specs.Map.{Reg, Absent, Intcon, Pir1, Pir2, Port, Plain, reg_in}
-use Rattle.pic_regs.specs.Registers.{Registers, flag, requested}
+use Rattle.pic_regs.specs.Map.{Reg, Absent, Intcon, Pir1, Pir2, Port, Plain}
+use Rattle.pic_regs.specs.Registers.{flag, requested}
 use Rattle.pic_regs.specs.Arrivals.{Sources, arrived}
 use Rattle.pic_machine.specs.declared.steps.Did.TheVariants.{Took}
 use Rattle.pic_machine.specs.declared.steps.PortWrite.{PortWrite}

@@ -1,15 +1,14 @@
 -- The register that a counter's setup names, as the code reaches it, and what is then said of its byte.
-use Rattle.std.specs.Prelude.{ℕ, zero, suc, ◌||◌, ◌+◌, ◌-◌, ◌*◌, ◌/◌, ◌%◌, ◌<◌, ◌≤◌, Bool, true, false, cond, List, [], ◌∷◌, Option, Some, None, IfSome, ◌==◌, take}
-use Rattle.std.proofs.Common.{◌≡◌, refl, sym, ap, subst, ◌∙◌, arith}
+use Rattle.std.specs.Prelude.{ℕ, zero, suc, ◌||◌, ◌+◌, ◌-◌, ◌*◌, ◌/◌, ◌%◌, ◌<◌, ◌≤◌, Bool, true, false, cond, List, Option, Some, None, IfSome, ◌==◌}
+use Rattle.std.proofs.Common.{◌≡◌, refl, sym, ap, ◌∙◌, arith}
 use Rattle.std.proofs.lemmas.Bool.{leb-true, leb-false, eq-eqb, eqb-false, ne_eqb}
 use Rattle.std.proofs.lemmas.List.{append-nil}
 use Rattle.std.specs.List.{flat_map}
 use Rattle.frp_tree.specs.declared.syntax.Setup.{Setup}
 use Rattle.pic_isa.specs.declared.sources.Source.{Source}
-use Rattle.pic_isa.specs.declared.sources.Source.TheVariants.{T0, Int, Psp, Ad, Ssp, Ccp1, Tmr2, Tmr1, Ee, Bcl, Ccp2}
+use Rattle.pic_isa.specs.declared.sources.Source.TheVariants.{T0, Int}
 use Rattle.pic_isa.specs.Names.{port_at}
-use Rattle.pic_isa.proofs.NameFacts.{register_below}
-use Rattle.pic_regs.specs.Bytes.{Byte, num, bits, one_if, updated}
+use Rattle.pic_regs.specs.Bytes.{Byte, bits, one_if, updated}
 use Rattle.pic_regs.specs.Map.{Reg, Absent, Intcon, Port, Tris, Plain, tris_bits, reg_in, reg_at, over_tris}
 use Rattle.pic_regs.specs.Registers.{Registers}
 use Rattle.pic_regs.specs.Arrivals.{Sources, arrived}
@@ -22,12 +21,12 @@ use Rattle.pic_machine.specs.Exec.{field, operand}
 use Rattle.firmware.specs.declared.counters.Counter.{Counter}
 use Rattle.firmware.specs.declared.counters.SetupAt.{SetupAt}
 use Rattle.firmware.specs.Counters.{IsSetup, setups_of}
-use Rattle.firmware.specs.Layout.{state_byte, in_bank_1, low_bits, is_peripheral}
+use Rattle.firmware.specs.Layout.{state_byte, in_bank_1, is_peripheral}
 use Rattle.firmware.proofs.CodeFacts.{setup_below}
 use Rattle.stack_bound.specs.Counts.{put_by}
 use Rattle.stack_bound.specs.Follows.{put_on}
-use Rattle.counter_runs.proofs.Spots.{Kind, NoSetup, LowSetup, HighSetup, Spot, LoadsInit, StoresInit, LoadsSetup, StoresSetup, ChoosesHigh, EnablesHigh, ChoosesLow, Enables, TurnsOn, Jumps, At, kind_of, address_of, byte_of, instruction}
-use Rattle.counter_runs.proofs.BootSteps.{Done, Stores, is_high, is_target, needs, before, fits, register_of}
+use Rattle.counter_runs.proofs.Spots.{Kind, NoSetup, LowSetup, HighSetup, Spot, StoresSetup, ChoosesHigh, EnablesHigh, ChoosesLow, Enables, At, kind_of, byte_of, instruction}
+use Rattle.counter_runs.proofs.BootSteps.{Done, Stores, is_high, is_target, before, fits, register_of}
 
 -- The setup's register is the target.
 abbrev pub Aimed : Option SetupAt → Reg → Type 0

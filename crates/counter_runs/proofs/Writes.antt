@@ -1,11 +1,11 @@
 -- Each register that a counter's code writes is listed in its map.
-use Rattle.std.specs.Prelude.{ℕ, zero, suc, ◌+◌, ◌<◌, ◌≤◌, Bool, true, false, ◌&&◌, ◌||◌, ◌==◌, cond, List, Option, Some, None, IfSome}
+use Rattle.std.specs.Prelude.{ℕ, ◌<◌, true, false, ◌||◌, ◌==◌, cond, List, Option, Some, None, IfSome}
 use Rattle.std.proofs.Common.{◌≡◌, refl, sym, ap, subst, ◌∙◌, arith, lit<, lit≤}
 use Rattle.std.proofs.lemmas.Bool.{eq-eqb}
 use Rattle.pic_isa.specs.declared.sources.Source.{Source}
-use Rattle.pic_isa.specs.declared.sources.Source.TheVariants.{T0, Int, Psp, Ad, Ssp, Ccp1, Tmr2, Tmr1, Ee, Bcl, Ccp2}
+use Rattle.pic_isa.specs.declared.sources.Source.TheVariants.{T0, Int}
 use Rattle.pic_isa.specs.Sources.{flag_of, enable_of}
-use Rattle.pic_regs.specs.Map.{Reg, Absent, Port, Tris, Plain}
+use Rattle.pic_regs.specs.Map.{Reg, Port, Tris, Plain}
 use Rattle.pic_regs.proofs.SetupFacts.{Suits}
 use Rattle.pic_machine.specs.Results.{written}
 use Rattle.firmware.specs.declared.counters.Counter.{Counter}
@@ -13,8 +13,8 @@ use Rattle.firmware.specs.declared.counters.SetupAt.{SetupAt}
 use Rattle.firmware.specs.Layout.{status, intcon, state_byte, port_address, in_bank_1, is_peripheral}
 use Rattle.firmware.specs.Maps.{map_of, is_written, is_set_up, sets_up_bank_1}
 use Rattle.stack_bound.specs.MapNames.{is_listed}
-use Rattle.counter_runs.proofs.Story.{Place, Rests, Clears, Loads, Adds, Opens, Commits, Returns}
-use Rattle.counter_runs.proofs.Spots.{Kind, NoSetup, LowSetup, HighSetup, Spot, LoadsInit, StoresInit, LoadsSetup, StoresSetup, ChoosesHigh, EnablesHigh, ChoosesLow, Enables, TurnsOn, Jumps, At, kind_of}
+use Rattle.counter_runs.proofs.Story.{Place, Clears, Opens, Commits}
+use Rattle.counter_runs.proofs.Spots.{LowSetup, HighSetup, Spot, StoresInit, StoresSetup, ChoosesHigh, EnablesHigh, ChoosesLow, Enables, TurnsOn, kind_of}
 use Rattle.counter_runs.proofs.BootSteps.{is_high, register_of}
 use Rattle.counter_runs.proofs.Targets.{Aimed, has_setup, is_there}
 use Rattle.counter_runs.proofs.PlaceSteps.{wrote_at}
@@ -68,7 +68,7 @@ target_listed None c target is_aimed there = absurd cc
 target_listed (Some s) c target is_aimed there =
     let d : Counter = record c { setup = Some s } in
     subst (λ wrote. Listed d wrote) (sym (lowest_target s.register s.address target is_aimed.1))
-        (listed d s.address (omega (arith, is_aimed.3)) (setup_written d s.address (eq-eqb s.address s.address refl)))
+    (listed d s.address (omega (arith, is_aimed.3)) (setup_written d s.address (eq-eqb s.address s.address refl)))
 
 enable_listed : (source : Source) (c : Counter) (target : Reg) → is_peripheral source ≡ true → Listed (record c { source = source }) (written (register_of (record c { source = source }) target EnablesHigh))
 enable_listed T0 c target e = absurd cc
