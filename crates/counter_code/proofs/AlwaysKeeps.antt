@@ -1,16 +1,13 @@
 -- The image of a counter keeps what firmware promises: from every start, under every list of arrivals, at every moment.
-use Rattle.std.specs.Prelude.{ℕ, ◌+◌, ◌<◌, Bool, true, false, not, ◌&&◌, List}
-use Rattle.std.proofs.Common.{◌≡◌, refl, ap, arith}
-use Rattle.pic_regs.specs.declared.starts.Start.{Start}
+use Rattle.std.specs.Prelude.{Bool, true, false, not, ◌&&◌}
+use Rattle.std.proofs.Common.{◌≡◌, refl, arith}
 use Rattle.pic_regs.specs.Registers.{flag}
-use Rattle.pic_regs.specs.Arrivals.{Sources}
-use Rattle.pic_machine.specs.Run.{Log, arrivals_of, run}
+use Rattle.pic_machine.specs.Run.{Log, arrivals_of}
 use Rattle.counter_code.specs.declared.counters.Counter.{Counter}
 use Rattle.counter_code.specs.Counters.{IsCounter, program_of}
 use Rattle.counter_code.specs.Layout.{image_of}
 use Rattle.counter_code.specs.Maps.{map_of}
-use Rattle.stack_bound.specs.Counts.{latches}
-use Rattle.stack_bound.specs.Firmware.{AlwaysKeeps, AlwaysSettles, IsQuietLongEnough}
+use Rattle.stack_bound.specs.Firmware.{AlwaysKeeps, AlwaysSettles}
 use Rattle.counter_code.proofs.BootRuns.{chip_at, log_of}
 use Rattle.counter_code.proofs.Told.{story}
 use Rattle.counter_code.proofs.Follows.{story-follows}

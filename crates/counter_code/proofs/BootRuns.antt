@@ -1,10 +1,8 @@
 -- Each run of a counter's image boots: up to the ready boundary its steps are those of the boot's spots.
-use Rattle.std.specs.Prelude.{ℕ, zero, suc, ◌+◌, ◌<◌, ◌≤◌, Bool, true, false, ◌||◌, ◌==◌, cond, List, [], ◌∷◌, ◌++◌, length, Option, Some, None}
-use Rattle.std.specs.List.{flat_map}
+use Rattle.std.specs.Prelude.{ℕ, suc, ◌+◌, ◌<◌, ◌≤◌, Bool, true, false, ◌||◌, ◌==◌, cond, List, [], ◌∷◌, ◌++◌, length, Option, Some, None}
 use Rattle.std.proofs.Common.{◌≡◌, refl, sym, ap, subst, ◌∙◌, arith, ◌⊎◌, inl, inr}
 use Rattle.std.proofs.lemmas.Bool.{cases_lt}
 use Rattle.std.proofs.lemmas.List.{append-nil}
-use Rattle.frp_tree.specs.declared.syntax.Setup.{Setup}
 use Rattle.pic_isa.specs.declared.instructions.Instr.{Instr}
 use Rattle.pic_isa.specs.Instructions.{instruction_of}
 use Rattle.pic_regs.specs.declared.starts.Start.{Start}
@@ -14,7 +12,6 @@ use Rattle.pic_regs.specs.Registers.{Registers, requested}
 use Rattle.pic_regs.specs.Arrivals.{Sources, arrived}
 use Rattle.pic_machine.specs.declared.steps.PortWrite.{PortWrite}
 use Rattle.pic_machine.specs.Chip.{Chip}
-use Rattle.pic_machine.specs.Boundary.{Step, boundary}
 use Rattle.pic_machine.specs.Exec.{field, operand}
 use Rattle.pic_machine.specs.Run.{Log, program_of, power_on, arrivals_of, after, run}
 use Rattle.pic_machine.proofs.TurnFacts.{running, runs-it}
@@ -25,7 +22,7 @@ use Rattle.counter_code.specs.Counters as programs
 use Rattle.counter_code.specs.Layout.{state_byte, is_peripheral, image_of}
 use Rattle.stack_bound.specs.Counts.{port_writes, put_by}
 use Rattle.stack_bound.specs.Follows.{setup_puts}
-use Rattle.counter_code.proofs.Spots.{Kind, NoSetup, LowSetup, HighSetup, Spot, LoadsInit, StoresInit, LoadsSetup, StoresSetup, ChoosesHigh, EnablesHigh, ChoosesLow, Enables, TurnsOn, Jumps, At, kind_of, byte_of, instruction, running_order, standing_order, ready_at, spot_at, found}
+use Rattle.counter_code.proofs.Spots.{Kind, NoSetup, LowSetup, HighSetup, Spot, StoresInit, StoresSetup, At, kind_of, byte_of, instruction, running_order, standing_order, ready_at, spot_at, found}
 use Rattle.counter_code.proofs.BootSteps.{Done, Nothing, known, needs, does, before, address_after, register_of, Stores, Cells, Boots, boots, shown_at, silent}
 use Rattle.counter_code.proofs.Targets.{Aimed, has_setup, belongs, is_there, Stands, reaches, spot_fits, stored_stands, stands_on, state_stays, puts_of_setup}
 
@@ -81,6 +78,10 @@ state_still (Some s) target old new is_aimed there stores = state_stays s.regist
 not_twice : (set_up : Bool) (puts : List PortWrite) → set_up ≡ false → cond set_up puts [] ≡ []
 not_twice set_up puts e = ap (λ b. cond b puts []) e
 
+-- The steps up to the ready boundary.
+abbrev pub boot_steps : Counter → ℕ
+boot_steps c = length (running_order (kind_of c.setup) (is_peripheral c.source))
+
 -- A run of a counter's image.
 abbrev pub chip_at : Counter → Start → List Sources → ℕ → Chip
 chip_at c start list n = after (program_of (image_of c)) (power_on start) (arrivals_of list) n
@@ -122,14 +123,7 @@ module _ (c : Counter) (fine : IsCounter c) (start : Start) (list : List Sources
   keeps_state StoresInit st old new there cells before e = ap (λ (memory : ℕ → Byte). memory state_byte) cells.0
   keeps_state StoresSetup st old new there cells before e = state_still c.setup target old new is_aimed there cells ∙ before e
   keeps_state (At place) st old new there cells before e = absurd cc
-  keeps_state LoadsInit st old new there cells before e = ap (λ (memory : ℕ → Byte). memory state_byte) cells.0 ∙ before e
-  keeps_state LoadsSetup st old new there cells before e = ap (λ (memory : ℕ → Byte). memory state_byte) cells.0 ∙ before e
-  keeps_state ChoosesHigh st old new there cells before e = ap (λ (memory : ℕ → Byte). memory state_byte) cells.0 ∙ before e
-  keeps_state EnablesHigh st old new there cells before e = ap (λ (memory : ℕ → Byte). memory state_byte) cells.0 ∙ before e
-  keeps_state ChoosesLow st old new there cells before e = ap (λ (memory : ℕ → Byte). memory state_byte) cells.0 ∙ before e
-  keeps_state Enables st old new there cells before e = ap (λ (memory : ℕ → Byte). memory state_byte) cells.0 ∙ before e
-  keeps_state TurnsOn st old new there cells before e = ap (λ (memory : ℕ → Byte). memory state_byte) cells.0 ∙ before e
-  keeps_state Jumps st old new there cells before e = ap (λ (memory : ℕ → Byte). memory state_byte) cells.0 ∙ before e
+  keeps_state _ st old new there cells before e = ap (λ (memory : ℕ → Byte). memory state_byte) cells.0 ∙ before e
 
   same_cells : (old new : Registers) → (new.plain ≡ old.plain) × (new.tris ≡ old.tris) → Stands target (byte_of c.setup) old → Stands target (byte_of c.setup) new
   same_cells old new cells stands = stands_still c.setup target old new is_aimed cells.1 (λ b other. ap (λ (memory : ℕ → Byte). memory b) cells.0) stands
@@ -140,14 +134,7 @@ module _ (c : Counter) (fine : IsCounter c) (start : Start) (list : List Sources
       stands_still c.setup target old new is_aimed cells.1 (λ b other. ap (λ (memory : ℕ → Byte). memory b) cells.0 ∙ ap (λ t. cond t (bits c.init) (old.plain b)) other) (before e)
   keeps_setup StoresSetup st old new there cells before e = stands_stored c.setup target old new is_aimed cells
   keeps_setup (At place) st old new there cells before e = absurd cc
-  keeps_setup LoadsInit st old new there cells before e = same_cells old new cells (before e)
-  keeps_setup LoadsSetup st old new there cells before e = same_cells old new cells (before e)
-  keeps_setup ChoosesHigh st old new there cells before e = same_cells old new cells (before e)
-  keeps_setup EnablesHigh st old new there cells before e = same_cells old new cells (before e)
-  keeps_setup ChoosesLow st old new there cells before e = same_cells old new cells (before e)
-  keeps_setup Enables st old new there cells before e = same_cells old new cells (before e)
-  keeps_setup TurnsOn st old new there cells before e = same_cells old new cells (before e)
-  keeps_setup Jumps st old new there cells before e = same_cells old new cells (before e)
+  keeps_setup _ st old new there cells before e = same_cells old new cells (before e)
 
   abbrev all_puts : List PortWrite
   all_puts = setup_puts (programs.program_of c)
@@ -155,15 +142,7 @@ module _ (c : Counter) (fine : IsCounter c) (start : Start) (list : List Sources
   put_so_far : (s : Spot) (st : Done) → is_there c s ≡ true → set_up_once s st ≡ false → cond st.set_up all_puts [] ++ put_by (shown_at c target s) ≡ cond (does s st).set_up all_puts []
   put_so_far StoresSetup st there once = ap (λ b. cond b all_puts [] ++ put_by (shown_at c target StoresSetup)) once ∙ puts_of_setup c.setup target is_aimed there
   put_so_far (At place) st there once = absurd cc
-  put_so_far LoadsInit st there once = append-nil (cond st.set_up all_puts [])
-  put_so_far StoresInit st there once = append-nil (cond st.set_up all_puts [])
-  put_so_far LoadsSetup st there once = append-nil (cond st.set_up all_puts [])
-  put_so_far ChoosesHigh st there once = append-nil (cond st.set_up all_puts [])
-  put_so_far EnablesHigh st there once = append-nil (cond st.set_up all_puts [])
-  put_so_far ChoosesLow st there once = append-nil (cond st.set_up all_puts [])
-  put_so_far Enables st there once = append-nil (cond st.set_up all_puts [])
-  put_so_far TurnsOn st there once = append-nil (cond st.set_up all_puts [])
-  put_so_far Jumps st there once = append-nil (cond st.set_up all_puts [])
+  put_so_far _ st there once = append-nil (cond st.set_up all_puts [])
 
   boot_next : (s : Spot) (st : Done) (address n : ℕ) → BootAt c start list target st address n → Boots c target s st (chip_at c start list n) (log_of c start list n)
       → is_there c s ≡ true → set_up_once s st ≡ false → BootAt c start list target (does s st) (address_after s address) (suc n)
@@ -203,25 +182,22 @@ module _ (c : Counter) (fine : IsCounter c) (start : Start) (list : List Sources
   ends [] st address n its h =
       let stay : n ≡ n + 0 = omega arith in
       subst (λ m. BootAt c start list target (at_last (kind_of c.setup) (is_peripheral c.source)) (ready_at (kind_of c.setup) (is_peripheral c.source)) m) stay
-          (subst (λ a. BootAt c start list target (at_last (kind_of c.setup) (is_peripheral c.source)) a n) its.1 (subst (λ t. BootAt c start list target t address n) its.0 h))
+      (subst (λ a. BootAt c start list target (at_last (kind_of c.setup) (is_peripheral c.source)) a n) its.1 (subst (λ t. BootAt c start list target t address n) its.0 h))
   ends (s ∷ spots) st address n its h =
       let b = boot_step s st address n h its.0 its.1 its.3 in
       let on : suc n + length spots ≡ n + suc (length spots) = omega arith in
       subst (λ m. BootAt c start list target (at_last (kind_of c.setup) (is_peripheral c.source)) (ready_at (kind_of c.setup) (is_peripheral c.source)) m) on
-          (ends spots (does s st) (address_after s address) (suc n) its.5 (boot_next s st address n h b its.3 its.4))
+      (ends spots (does s st) (address_after s address) (suc n) its.5 (boot_next s st address n h b its.3 its.4))
 
   begins : BootAt c start list target at_first 0 0
   begins = record { known = refl; pc = refl; stored = λ e. absurd cc; stands = λ e. absurd cc; puts = refl }
 
-  -- The steps of the boot, and the ready boundary.
-  abbrev pub boot_steps : ℕ
-  boot_steps = length (running_order (kind_of c.setup) (is_peripheral c.source))
-
-  pub each_step : (n : ℕ) → n < boot_steps → Along n
+  -- Each step of the boot, and the ready boundary.
+  pub each_step : (n : ℕ) → n < boot_steps c → Along n
   each_step n h = along (running_order (kind_of c.setup) (is_peripheral c.source)) at_first 0 0 (way (kind_of c.setup) (is_peripheral c.source)) begins n (omega arith) (omega (arith, h))
 
-  pub at_ready : BootAt c start list target (at_last (kind_of c.setup) (is_peripheral c.source)) (ready_at (kind_of c.setup) (is_peripheral c.source)) boot_steps
+  pub at_ready : BootAt c start list target (at_last (kind_of c.setup) (is_peripheral c.source)) (ready_at (kind_of c.setup) (is_peripheral c.source)) (boot_steps c)
   at_ready =
-      let count : 0 + boot_steps ≡ boot_steps = omega arith in
+      let count : 0 + boot_steps c ≡ boot_steps c = omega arith in
       subst (λ m. BootAt c start list target (at_last (kind_of c.setup) (is_peripheral c.source)) (ready_at (kind_of c.setup) (is_peripheral c.source)) m) count
-          (ends (running_order (kind_of c.setup) (is_peripheral c.source)) at_first 0 0 (way (kind_of c.setup) (is_peripheral c.source)) begins)
+      (ends (running_order (kind_of c.setup) (is_peripheral c.source)) at_first 0 0 (way (kind_of c.setup) (is_peripheral c.source)) begins)

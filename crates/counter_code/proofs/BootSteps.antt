@@ -1,25 +1,22 @@
 -- What each instruction of the boot does to a chip of which only what the boot has done is known.
-use Rattle.std.specs.Prelude.{ℕ, zero, suc, ◌+◌, ◌%◌, ◌<◌, Bool, true, false, ◌&&◌, ◌||◌, ◌==◌, Option, Some, None, if◌then◌else◌}
-use Rattle.std.proofs.Common.{◌≡◌, refl, sym, ap, subst, ◌∙◌}
+use Rattle.std.specs.Prelude.{ℕ, ◌+◌, ◌%◌, Bool, true, false, ◌&&◌, ◌==◌, Option, None, if◌then◌else◌}
+use Rattle.std.proofs.Common.{◌≡◌, refl}
 use Rattle.pic_isa.specs.declared.sources.Source.{Source}
 use Rattle.pic_isa.specs.declared.sources.Source.TheVariants.{T0, Int, Psp, Ad, Ssp, Ccp1, Tmr2, Tmr1, Ee, Bcl, Ccp2}
-use Rattle.pic_isa.specs.Sources.{enable_of}
-use Rattle.pic_regs.specs.Bytes.{Byte, bits, num, zeros, updated}
-use Rattle.pic_regs.specs.Map.{Reg, Absent, Status, Intcon, Pie1, Pie2, Port, Tris, Plain, over_tris, lowest, reg_at}
+use Rattle.pic_regs.specs.Bytes.{Byte, bits, zeros, updated}
+use Rattle.pic_regs.specs.Map.{Reg, Absent, Status, Intcon, Pie1, Pie2, Port, Tris, Plain, over_tris}
 use Rattle.pic_regs.specs.Registers.{Registers, flag, requested}
 use Rattle.pic_regs.specs.Arrivals.{Sources, arrived}
-use Rattle.pic_machine.specs.declared.steps.Did.TheVariants.{Ran}
 use Rattle.pic_machine.specs.declared.steps.PortWrite.{PortWrite}
-use Rattle.pic_machine.specs.Chip.{Chip, through}
+use Rattle.pic_machine.specs.Chip.{Chip}
 use Rattle.pic_machine.specs.Results.{shown, written}
 use Rattle.pic_machine.specs.Boundary.{Step}
 use Rattle.pic_machine.proofs.TurnFacts.{running}
 use Rattle.counter_code.specs.declared.counters.Counter.{Counter}
-use Rattle.counter_code.specs.declared.counters.SetupAt.{SetupAt}
 use Rattle.counter_code.specs.Layout.{is_peripheral, state_byte}
-use Rattle.stack_bound.specs.Counts.{interrupts_on}
-use Rattle.counter_code.proofs.Story.{Place}
-use Rattle.counter_code.proofs.Spots.{Kind, NoSetup, LowSetup, HighSetup, Spot, LoadsInit, StoresInit, LoadsSetup, StoresSetup, ChoosesHigh, EnablesHigh, ChoosesLow, Enables, TurnsOn, Jumps, At, byte_of, address_of, instruction, kind_of}
+use Rattle.stack_bound.specs.Counts.{is_taking, is_run_at, interrupts_on}
+use Rattle.stack_bound.specs.Firmware.{is_stop}
+use Rattle.counter_code.proofs.Spots.{Kind, HighSetup, Spot, LoadsInit, StoresInit, LoadsSetup, StoresSetup, ChoosesHigh, EnablesHigh, ChoosesLow, Enables, TurnsOn, Jumps, At, byte_of, instruction, kind_of}
 
 -- PIE1, PIE2 and the enables in INTCON, with the source's alone.
 abbrev pub pie1_of : Source → Byte
@@ -153,8 +150,9 @@ shown_at c target _ = None
 
 -- What a boot step does.
 pub record Boots (c : Counter) (target : Reg) (s : Spot) (st : Done) (x : Chip) (step : Step) : Type 0 where
-  pub word : ℕ
-  pub did : step.did ≡ Ran x.pc word
+  pub taking : is_taking step.did ≡ false
+  pub stop : is_stop step.did ≡ false
+  pub ran : (address : ℕ) → is_run_at address step.did ≡ (x.pc == address)
   pub off : interrupts_on step ≡ false
   pub unchanged : (source : Source) → flag source step.after.regs ≡ flag source step.arrived.regs
   pub wrote : step.wrote ≡ written (register_of c target s)
@@ -185,60 +183,35 @@ BootsFrom c target s st x arrivals word =
     Boots c target s (needs (kind_of c.setup) s st) (before c s st x) (running word (instruction c s) (register_of c target s) arrivals (before c s st x))
 
 jumps : (c : Counter) (target : Reg) (loaded : Loaded) (st : Done) (x : Chip) (arrivals : Sources) (word : ℕ) → BootsFrom c target Jumps (record st { loaded = loaded }) x arrivals word
-jumps c target Nothing st x arrivals word = record { word = word; did = refl; off = refl; unchanged = λ source. refl; wrote = refl; port = refl; done = refl; pc = refl; cells = (refl, refl) }
-jumps c target Init st x arrivals word = record { word = word; did = refl; off = refl; unchanged = λ source. refl; wrote = refl; port = refl; done = refl; pc = refl; cells = (refl, refl) }
-jumps c target Setup st x arrivals word = record { word = word; did = refl; off = refl; unchanged = λ source. refl; wrote = refl; port = refl; done = refl; pc = refl; cells = (refl, refl) }
+jumps c target Nothing st x arrivals word = search
+jumps c target Init st x arrivals word = search
+jumps c target Setup st x arrivals word = search
 
 stores_setup : (c : Counter) (target : Reg) (st : Done) (x : Chip) (arrivals : Sources) (word : ℕ) → is_target target ≡ true → BootsFrom c target StoresSetup st x arrivals word
-stores_setup c (Port n) st x arrivals word e = record { word = word; did = refl; off = refl; unchanged = λ source. refl; wrote = refl; port = refl; done = refl; pc = refl; cells = (refl, refl) }
-stores_setup c (Tris n) st x arrivals word e = record { word = word; did = refl; off = refl; unchanged = λ source. refl; wrote = refl; port = refl; done = refl; pc = refl; cells = (refl, refl) }
-stores_setup c (Plain a) st x arrivals word e = record { word = word; did = refl; off = refl; unchanged = λ source. refl; wrote = refl; port = refl; done = refl; pc = refl; cells = (refl, refl) }
+stores_setup c (Port n) st x arrivals word e = search
+stores_setup c (Tris n) st x arrivals word e = search
+stores_setup c (Plain a) st x arrivals word e = search
 stores_setup c _ st x arrivals word e = absurd cc
 
 enables_high : (source : Source) (c : Counter) (target : Reg) (st : Done) (x : Chip) (arrivals : Sources) (word : ℕ) → is_peripheral source ≡ true
     → BootsFrom (record c { source = source }) target EnablesHigh st x arrivals word
 enables_high T0 c target st x arrivals word e = absurd cc
 enables_high Int c target st x arrivals word e = absurd cc
-enables_high Psp c target st x arrivals word e = record { word = word; did = refl; off = refl; unchanged = λ source. refl; wrote = refl; port = refl; done = refl; pc = refl; cells = (refl, refl) }
-enables_high Ad c target st x arrivals word e = record { word = word; did = refl; off = refl; unchanged = λ source. refl; wrote = refl; port = refl; done = refl; pc = refl; cells = (refl, refl) }
-enables_high Ssp c target st x arrivals word e = record { word = word; did = refl; off = refl; unchanged = λ source. refl; wrote = refl; port = refl; done = refl; pc = refl; cells = (refl, refl) }
-enables_high Ccp1 c target st x arrivals word e = record { word = word; did = refl; off = refl; unchanged = λ source. refl; wrote = refl; port = refl; done = refl; pc = refl; cells = (refl, refl) }
-enables_high Tmr2 c target st x arrivals word e = record { word = word; did = refl; off = refl; unchanged = λ source. refl; wrote = refl; port = refl; done = refl; pc = refl; cells = (refl, refl) }
-enables_high Tmr1 c target st x arrivals word e = record { word = word; did = refl; off = refl; unchanged = λ source. refl; wrote = refl; port = refl; done = refl; pc = refl; cells = (refl, refl) }
-enables_high Ee c target st x arrivals word e = record { word = word; did = refl; off = refl; unchanged = λ source. refl; wrote = refl; port = refl; done = refl; pc = refl; cells = (refl, refl) }
-enables_high Bcl c target st x arrivals word e = record { word = word; did = refl; off = refl; unchanged = λ source. refl; wrote = refl; port = refl; done = refl; pc = refl; cells = (refl, refl) }
-enables_high Ccp2 c target st x arrivals word e = record { word = word; did = refl; off = refl; unchanged = λ source. refl; wrote = refl; port = refl; done = refl; pc = refl; cells = (refl, refl) }
+enables_high _ c target st x arrivals word e = search
 
 enables : (source : Source) (c : Counter) (target : Reg) (st : Done) (x : Chip) (arrivals : Sources) (word : ℕ) → BootsFrom (record c { source = source }) target Enables st x arrivals word
-enables T0 c target st x arrivals word = record { word = word; did = refl; off = refl; unchanged = λ source. refl; wrote = refl; port = refl; done = refl; pc = refl; cells = (refl, refl) }
-enables Int c target st x arrivals word = record { word = word; did = refl; off = refl; unchanged = λ source. refl; wrote = refl; port = refl; done = refl; pc = refl; cells = (refl, refl) }
-enables Psp c target st x arrivals word = record { word = word; did = refl; off = refl; unchanged = λ source. refl; wrote = refl; port = refl; done = refl; pc = refl; cells = (refl, refl) }
-enables Ad c target st x arrivals word = record { word = word; did = refl; off = refl; unchanged = λ source. refl; wrote = refl; port = refl; done = refl; pc = refl; cells = (refl, refl) }
-enables Ssp c target st x arrivals word = record { word = word; did = refl; off = refl; unchanged = λ source. refl; wrote = refl; port = refl; done = refl; pc = refl; cells = (refl, refl) }
-enables Ccp1 c target st x arrivals word = record { word = word; did = refl; off = refl; unchanged = λ source. refl; wrote = refl; port = refl; done = refl; pc = refl; cells = (refl, refl) }
-enables Tmr2 c target st x arrivals word = record { word = word; did = refl; off = refl; unchanged = λ source. refl; wrote = refl; port = refl; done = refl; pc = refl; cells = (refl, refl) }
-enables Tmr1 c target st x arrivals word = record { word = word; did = refl; off = refl; unchanged = λ source. refl; wrote = refl; port = refl; done = refl; pc = refl; cells = (refl, refl) }
-enables Ee c target st x arrivals word = record { word = word; did = refl; off = refl; unchanged = λ source. refl; wrote = refl; port = refl; done = refl; pc = refl; cells = (refl, refl) }
-enables Bcl c target st x arrivals word = record { word = word; did = refl; off = refl; unchanged = λ source. refl; wrote = refl; port = refl; done = refl; pc = refl; cells = (refl, refl) }
-enables Ccp2 c target st x arrivals word = record { word = word; did = refl; off = refl; unchanged = λ source. refl; wrote = refl; port = refl; done = refl; pc = refl; cells = (refl, refl) }
+enables T0 c target st x arrivals word = search
+enables _ c target st x arrivals word = search
 
 pub boots : (c : Counter) (target : Reg) (s : Spot) (st : Done) (x : Chip) (arrivals : Sources) (word : ℕ) → fits c target s ≡ true → BootsFrom c target s st x arrivals word
-boots c target LoadsInit st x arrivals word e = record { word = word; did = refl; off = refl; unchanged = λ source. refl; wrote = refl; port = refl; done = refl; pc = refl; cells = (refl, refl) }
-boots c target StoresInit st x arrivals word e = record { word = word; did = refl; off = refl; unchanged = λ source. refl; wrote = refl; port = refl; done = refl; pc = refl; cells = (refl, refl) }
-boots c target LoadsSetup st x arrivals word e = record { word = word; did = refl; off = refl; unchanged = λ source. refl; wrote = refl; port = refl; done = refl; pc = refl; cells = (refl, refl) }
 boots c target StoresSetup st x arrivals word e = stores_setup c target st x arrivals word e
-boots c target ChoosesHigh st x arrivals word e = record { word = word; did = refl; off = refl; unchanged = λ source. refl; wrote = refl; port = refl; done = refl; pc = refl; cells = (refl, refl) }
 boots c target EnablesHigh st x arrivals word e = enables_high c.source c target st x arrivals word e
-boots c target ChoosesLow st x arrivals word e = record { word = word; did = refl; off = refl; unchanged = λ source. refl; wrote = refl; port = refl; done = refl; pc = refl; cells = (refl, refl) }
 boots c target Enables st x arrivals word e = enables c.source c target st x arrivals word
-boots c target TurnsOn st x arrivals word e = record { word = word; did = refl; off = refl; unchanged = λ source. refl; wrote = refl; port = refl; done = refl; pc = refl; cells = (refl, refl) }
 boots c target Jumps st x arrivals word e = jumps c target st.loaded st x arrivals word
 boots c target (At place) st x arrivals word e = absurd cc
+boots c target _ st x arrivals word e = search
 
 -- Nothing is requested then, with GIE off.
 pub silent : (c : Counter) (s : Spot) (st : Done) (x : Chip) (arrivals : Sources) → requested (arrived arrivals (before c s st x).regs) ≡ false
 silent c StoresInit st x arrivals = refl
-silent c StoresSetup st x arrivals = refl
-silent c EnablesHigh st x arrivals = refl
-silent c Enables st x arrivals = refl
 silent c _ st x arrivals = refl

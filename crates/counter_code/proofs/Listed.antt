@@ -1,6 +1,6 @@
 -- The map lists what the code writes.
 use Rattle.std.specs.Prelude.{ℕ, zero, suc, ◌+◌, ◌<◌, ◌≤◌, Bool, true, false, ◌&&◌, ◌||◌, ◌==◌, nat_le, cond, List, [], ◌∷◌}
-use Rattle.std.proofs.Common.{◌≡◌, refl, sym, ap, subst, ◌∙◌, arith, ◌⊎◌, inl, inr}
+use Rattle.std.proofs.Common.{◌≡◌, refl, sym, ap, subst, ◌∙◌, arith, inl, inr}
 use Rattle.map_file.specs.MapRules.{RangesRise}
 use Rattle.counter_code.proofs.RangeFacts.{ranges_rise}
 use Rattle.std.proofs.lemmas.Bool.{cases_eq, le-leb, leb-true, eq-eqb, ne_eqb}
@@ -60,7 +60,7 @@ has_each (suc n) test a small h e =
     elim (cases_eq a n) [
       | inl same ↦ (let last : test n ≡ true = ap test (sym same) ∙ e in rw last (subst (λ b. is_in (with_address (ranges_below n test) n) b ≡ true) (sym same) (has_it (ranges_below n test) 0 n (ranges_rise n test (omega arith)))))
       | inr other ↦ (
-        let before : is_in (ranges_below n test) a ≡ true = has_each n test a (omega arith) (omega (arith, h, other)) e in
-        elim (test n) as (λ b. is_in (cond b (with_address (ranges_below n test) n) (ranges_below n test)) a ≡ true) [ true ↦ has_more (ranges_below n test) n a before (omega (arith, h)) | false ↦ before ]
-      )
+          let before : is_in (ranges_below n test) a ≡ true = has_each n test a (omega arith) (omega (arith, h, other)) e in
+          elim (test n) as (λ b. is_in (cond b (with_address (ranges_below n test) n) (ranges_below n test)) a ≡ true) [ true ↦ has_more (ranges_below n test) n a before (omega (arith, h)) | false ↦ before ]
+          )
     ]

@@ -1,14 +1,13 @@
 -- What a step behind the boot is, seen through the counts of the promises.
-use Rattle.std.specs.Prelude.{ℕ, zero, suc, ◌+◌, ◌%◌, ◌<◌, ◌≤◌, Bool, true, false, not, ◌&&◌, ◌||◌, ◌==◌, List, [], ◌∷◌, Option, Some, None}
+use Rattle.std.specs.Prelude.{ℕ, ◌+◌, ◌%◌, ◌<◌, Bool, true, false, not, ◌&&◌, ◌||◌, ◌==◌, Some}
 use Rattle.std.proofs.Common.{◌≡◌, refl, sym, ap, subst, ◌∙◌, arith}
 use Rattle.pic_isa.specs.declared.sources.Source.{Source}
 use Rattle.pic_regs.specs.Bytes.{Byte, bits, num, one_if}
 use Rattle.pic_regs.specs.Map.{Reg}
-use Rattle.pic_regs.specs.Registers.{Registers, flag}
+use Rattle.pic_regs.specs.Registers.{flag}
 use Rattle.pic_regs.specs.Arrivals.{Sources, arrived}
 use Rattle.pic_regs.proofs.ArrivalFacts.{flag-arrived}
 use Rattle.pic_regs.proofs.ByteFacts.{num-bits}
-use Rattle.pic_machine.specs.declared.steps.PortWrite.{PortWrite}
 use Rattle.pic_machine.specs.Chip.{Chip}
 use Rattle.pic_machine.specs.Boundary.{Step, boundary}
 use Rattle.pic_machine.specs.Run.{program_of}
@@ -16,12 +15,12 @@ use Rattle.pic_machine.proofs.TurnFacts.{flag-latched}
 use Rattle.counter_code.specs.declared.counters.Counter.{Counter}
 use Rattle.counter_code.specs.Counters.{IsCounter}
 use Rattle.counter_code.specs.Layout.{state_byte, is_peripheral, image_of, ready_address, open_address, commit_address}
-use Rattle.stack_bound.specs.Counts.{is_taking, is_run_at, ran_at, interrupts_on, latches, clears, put_by} 
+use Rattle.stack_bound.specs.Counts.{is_taking, is_run_at, ran_at, interrupts_on, latches, clears, put_by}
 use Rattle.stack_bound.specs.Counts as counts
 use Rattle.stack_bound.specs.MapNames.{byte_at}
 use Rattle.stack_bound.specs.Firmware.{is_stop}
 use Rattle.stack_bound.specs.Urgent.{is_heard}
-use Rattle.counter_code.proofs.Story.{Place, Rests, Clears, Loads, Adds, Opens, Commits, Returns, rests, is_clearing, is_opening, is_committing, next, event_in_map, value_after, puts_at}
+use Rattle.counter_code.proofs.Story.{Place, Rests, Clears, Opens, Commits, rests, is_clearing, is_opening, is_committing, next, event_in_map, value_after, puts_at}
 use Rattle.counter_code.proofs.Spots.{Kind, NoSetup, LowSetup, HighSetup, kind_of, ready_at, ready_is}
 use Rattle.counter_code.proofs.Targets.{Aimed}
 use Rattle.counter_code.proofs.Writes.{Listed, place_listed}
@@ -58,21 +57,11 @@ ready_commits_not c = ap (λ a. a == 8) (ready_is c) ∙ (not_ready_address (kin
 
 opens_there : (c : Counter) (place : Place) → (address_at c place == 7) ≡ is_opening place
 opens_there c Rests = ready_opens_not c
-opens_there c Clears = refl
-opens_there c Loads = refl
-opens_there c Adds = refl
-opens_there c Opens = refl
-opens_there c Commits = refl
-opens_there c Returns = refl
+opens_there c _ = refl
 
 commits_there : (c : Counter) (place : Place) → (address_at c place == 8) ≡ is_committing place
 commits_there c Rests = ready_commits_not c
-commits_there c Clears = refl
-commits_there c Loads = refl
-commits_there c Adds = refl
-commits_there c Opens = refl
-commits_there c Commits = refl
-commits_there c Returns = refl
+commits_there c _ = refl
 
 -- A flag that stays isn't cleared, and one that was set is.
 and_not : (b : Bool) → (b && not b) ≡ false
@@ -85,7 +74,7 @@ not_cleared source step same = ap (λ b. flag source step.arrived.regs && not b)
 pub ledger_of : (program : ℕ → ℕ) (arrivals : Sources) (x : Chip) (source : Source) →
     flag source (boundary program arrivals x).after.regs ≡ flag source (boundary program arrivals x).arrived.regs
     → one_if (flag source x.regs) + one_if (latches source (boundary program arrivals x))
-        ≡ one_if (flag source (boundary program arrivals x).after.regs) + one_if (clears source (boundary program arrivals x))
+    ≡ one_if (flag source (boundary program arrivals x).after.regs) + one_if (clears source (boundary program arrivals x))
 ledger_of program arrivals x source same =
     let step : Step = boundary program arrivals x in
     let latched : one_if (flag source x.regs) + one_if (latches source step) ≡ one_if (flag source step.arrived.regs) = flag-latched source arrivals x in
@@ -110,32 +99,17 @@ module _ (c : Counter) (fine : IsCounter c) (target : Reg) (is_aimed : Aimed c.s
   step_from arrivals x = boundary (program_of (image_of c)) arrivals x
 
   values_of : (place : Place) (x : Chip) (step : Step) → Stays c target place x → Runs c place x step → byte_at step.after state_byte ≡ value_after c place (byte_at x state_byte)
-  values_of Rests x step h r = ap (λ (memory : ℕ → Byte). num (memory state_byte)) r.plain
-  values_of Clears x step h r = ap (λ (memory : ℕ → Byte). num (memory state_byte)) r.plain
-  values_of Loads x step h r = ap (λ (memory : ℕ → Byte). num (memory state_byte)) r.plain
-  values_of Adds x step h r = ap (λ (memory : ℕ → Byte). num (memory state_byte)) r.plain
   values_of Opens x step h r = ap (λ (memory : ℕ → Byte). num (memory state_byte)) r.plain ∙ ap num h.w ∙ grown c fine.step (x.regs.plain state_byte)
-  values_of Commits x step h r = ap (λ (memory : ℕ → Byte). num (memory state_byte)) r.plain
-  values_of Returns x step h r = ap (λ (memory : ℕ → Byte). num (memory state_byte)) r.plain
+  values_of _ x step h r = ap (λ (memory : ℕ → Byte). num (memory state_byte)) r.plain
 
   puts_of : (place : Place) (x : Chip) (step : Step) → Stays c target place x → Runs c place x step → put_by step.port ≡ puts_at c place (byte_at x state_byte)
-  puts_of Rests x step h r = ap put_by r.port
-  puts_of Clears x step h r = ap put_by r.port
-  puts_of Loads x step h r = ap put_by r.port
-  puts_of Adds x step h r = ap put_by r.port
-  puts_of Opens x step h r = ap put_by r.port
   puts_of Commits x step h r = ap put_by r.port ∙ ap (λ w. put_by (Some (record { port = c.port; byte = num w }))) h.w
-  puts_of Returns x step h r = ap put_by r.port
+  puts_of _ x step h r = ap put_by r.port
 
   -- The flag: it is cleared by the instruction that clears it, and there alone.
   clears_of : (place : Place) (x : Chip) (arrivals : Sources) → Stays c target place x → Runs c place x (step_from arrivals x) → clears c.source (step_from arrivals x) ≡ is_clearing place
   clears_of Clears x arrivals h r = cleared c.source (step_from arrivals x) (flag-arrived c.source arrivals x.regs ∙ still_set (arrivals c.source) (flag c.source x.regs) (h.flagged refl)) r.flags
-  clears_of Rests x arrivals h r = not_cleared c.source (step_from arrivals x) r.flags
-  clears_of Loads x arrivals h r = not_cleared c.source (step_from arrivals x) r.flags
-  clears_of Adds x arrivals h r = not_cleared c.source (step_from arrivals x) r.flags
-  clears_of Opens x arrivals h r = not_cleared c.source (step_from arrivals x) r.flags
-  clears_of Commits x arrivals h r = not_cleared c.source (step_from arrivals x) r.flags
-  clears_of Returns x arrivals h r = not_cleared c.source (step_from arrivals x) r.flags
+  clears_of _ x arrivals h r = not_cleared c.source (step_from arrivals x) r.flags
 
   abbrev Ledger : Chip → Step → Type 0
   Ledger x step = one_if (flag c.source x.regs) + one_if (latches c.source step) ≡ one_if (flag c.source step.after.regs) + one_if (clears c.source step)
@@ -148,27 +122,22 @@ module _ (c : Counter) (fine : IsCounter c) (target : Reg) (is_aimed : Aimed c.s
       let now : one_if (flag c.source step.after.regs) ≡ 0 = ap one_if r.flags in
       let one : one_if (clears c.source step) ≡ 1 = ap one_if (clears_of Clears x arrivals h r) in
       omega (arith, latched, was, now, one)
-  ledger_at Rests x arrivals h r = ledger_of (program_of (image_of c)) arrivals x c.source r.flags
-  ledger_at Loads x arrivals h r = ledger_of (program_of (image_of c)) arrivals x c.source r.flags
-  ledger_at Adds x arrivals h r = ledger_of (program_of (image_of c)) arrivals x c.source r.flags
-  ledger_at Opens x arrivals h r = ledger_of (program_of (image_of c)) arrivals x c.source r.flags
-  ledger_at Commits x arrivals h r = ledger_of (program_of (image_of c)) arrivals x c.source r.flags
-  ledger_at Returns x arrivals h r = ledger_of (program_of (image_of c)) arrivals x c.source r.flags
+  ledger_at _ x arrivals h r = ledger_of (program_of (image_of c)) arrivals x c.source r.flags
 
   -- A step that runs the place's instruction, where nothing is taken.
   run_facts : (place : Place) (x : Chip) (arrivals : Sources) → Stays c target place x → Runs c place x (step_from arrivals x)
       → false ≡ (rests place && flag c.source (step_from arrivals x).arrived.regs) → Facts c place x (step_from arrivals x)
   run_facts place x arrivals h r none = record {
-    takes_when = ap is_taking r.did ∙ none;
-    opens_when = ap (is_run_at open_address) r.did ∙ ap (λ a. a == 7) h.pc ∙ opens_there c place;
-    commits_when = ap (is_run_at commit_address) r.did ∙ ap (λ a. a == 8) h.pc ∙ commits_there c place;
+    takes_when = r.taking ∙ none;
+    opens_when = r.ran open_address ∙ ap (λ a. a == 7) h.pc ∙ opens_there c place;
+    commits_when = r.ran commit_address ∙ ap (λ a. a == 8) h.pc ∙ commits_there c place;
     clears_when = clears_of place x arrivals h r;
     on_when = r.on;
     hears_when = r.hears;
     values = values_of place x (step_from arrivals x) h r;
     puts = puts_of place x (step_from arrivals x) h r;
     ledger = ledger_at place x arrivals h r;
-    goes_on = ap is_stop r.did;
+    goes_on = r.stop;
     listed = subst (Listed c) (sym r.wrote) (place_listed c place fine.port);
   }
 
@@ -196,7 +165,7 @@ module _ (c : Counter) (fine : IsCounter c) (target : Reg) (is_aimed : Aimed c.s
       let step : Step = step_from arrivals x in
       let r = runs_here c fine target is_aimed place x arrivals h (silent_here c fine target is_aimed place x arrivals h inside) in
       let none : false ≡ (rests place && flag c.source step.arrived.regs) = ap (λ b. b && flag c.source step.arrived.regs) (sym inside) in
-      (run_facts place x arrivals h r none, subst (λ b. Stays c target (next b place) step.after) (sym (ap is_taking r.did)) (after_run c fine target is_aimed place x step h r))
+      (run_facts place x arrivals h r none, subst (λ b. Stays c target (next b place) step.after) (sym (r.taking)) (after_run c fine target is_aimed place x step h r))
 
   led_by : (x : Chip) (arrivals : Sources) → Stays c target Rests x → (is_set : Bool) → flag c.source (arrived arrivals x.regs) ≡ is_set → Led Rests arrivals x
   led_by x arrivals h true e =
@@ -206,13 +175,8 @@ module _ (c : Counter) (fine : IsCounter c) (target : Reg) (is_aimed : Aimed c.s
   led_by x arrivals h false e =
       let step : Step = step_from arrivals x in
       let r = runs_here c fine target is_aimed Rests x arrivals h (request_here c fine target is_aimed x arrivals h ∙ e) in
-      (run_facts Rests x arrivals h r (sym e), subst (λ b. Stays c target (next b Rests) step.after) (sym (ap is_taking r.did)) (after_run c fine target is_aimed Rests x step h r))
+      (run_facts Rests x arrivals h r (sym e), subst (λ b. Stays c target (next b Rests) step.after) (sym (r.taking)) (after_run c fine target is_aimed Rests x step h r))
 
   pub led : (place : Place) (x : Chip) (arrivals : Sources) → Stays c target place x → Led place arrivals x
   led Rests x arrivals h = led_by x arrivals h (flag c.source (arrived arrivals x.regs)) refl
-  led Clears x arrivals h = led_on Clears x arrivals h refl
-  led Loads x arrivals h = led_on Loads x arrivals h refl
-  led Adds x arrivals h = led_on Adds x arrivals h refl
-  led Opens x arrivals h = led_on Opens x arrivals h refl
-  led Commits x arrivals h = led_on Commits x arrivals h refl
-  led Returns x arrivals h = led_on Returns x arrivals h refl
+  led place x arrivals h = led_on place x arrivals h refl

@@ -1,30 +1,27 @@
 -- Each run of a counter's image from its ready boundary on: where control is, and what holds there.
-use Rattle.std.specs.Prelude.{ℕ, zero, suc, ◌+◌, ◌*◌, ◌%◌, ◌<◌, ◌≤◌, Bool, true, false, not, ◌&&◌, ◌||◌, ◌==◌, cond, List, [], ◌∷◌, Option, Some, None}
+use Rattle.std.specs.Prelude.{ℕ, ◌+◌, ◌%◌, Bool, true, false, ◌==◌, cond, Option, Some}
 use Rattle.std.proofs.Common.{◌≡◌, refl, sym, ap, subst, ◌∙◌, arith}
-use Rattle.std.proofs.lemmas.Bool.{ne_eqb}
 use Rattle.pic_isa.specs.declared.instructions.Instr.{Instr}
 use Rattle.pic_isa.specs.Instructions.{instruction_of}
 use Rattle.pic_isa.specs.declared.sources.Source.{Source}
-use Rattle.pic_isa.specs.declared.sources.Source.TheVariants.{T0, Int, Psp, Ad, Ssp, Ccp1, Tmr2, Tmr1, Ee, Bcl, Ccp2}
-use Rattle.pic_regs.specs.declared.starts.Start.{Start}
+use Rattle.pic_isa.specs.declared.sources.Source.TheVariants.{T0}
 use Rattle.pic_regs.specs.Bytes.{Byte, bits, num}
 use Rattle.pic_regs.specs.Map.{Reg}
-use Rattle.pic_regs.specs.Registers.{Registers, flag, requested}
+use Rattle.pic_regs.specs.Registers.{flag, requested}
 use Rattle.pic_regs.specs.Arrivals.{Sources, arrived}
 use Rattle.pic_machine.specs.Chip.{Chip}
 use Rattle.pic_machine.specs.Boundary.{Step, boundary}
 use Rattle.pic_machine.specs.Exec.{field, operand}
-use Rattle.pic_machine.specs.Run.{Log, program_of, power_on, arrivals_of, after, run}
+use Rattle.pic_machine.specs.Run.{program_of}
 use Rattle.pic_machine.proofs.TurnFacts.{running, taking, runs-it, takes-it}
 use Rattle.counter_code.specs.declared.counters.Counter.{Counter}
 use Rattle.counter_code.specs.Counters.{IsCounter}
 use Rattle.counter_code.specs.Layout.{state_byte, is_peripheral, image_of, ready_address}
-use Rattle.stack_bound.specs.Counts as counts
-use Rattle.counter_code.proofs.Story.{Place, Rests, Clears, Loads, Adds, Opens, Commits, Returns, rests, is_clearing, next, past}
-use Rattle.counter_code.proofs.Spots.{Kind, NoSetup, LowSetup, HighSetup, Spot, At, byte_of, kind_of, instruction, instruction_at, standing_order, ready_at, ready_is, spot_at, found}
+use Rattle.counter_code.proofs.Story.{Place, Rests, Clears, Loads, Adds, Opens, Commits, Returns, rests, is_clearing, next}
+use Rattle.counter_code.proofs.Spots.{Kind, NoSetup, LowSetup, HighSetup, Spot, At, byte_of, kind_of, instruction_at, standing_order, ready_at, ready_is, spot_at, found}
 use Rattle.counter_code.proofs.Targets.{Aimed, Stands}
-use Rattle.counter_code.proofs.BootSteps.{known, pie1_of, pie2_of}
-use Rattle.counter_code.proofs.BootRuns.{chip_at, log_of, stands_still, at_last, BootAt, boot_steps, at_ready}
+use Rattle.counter_code.proofs.BootSteps.{known}
+use Rattle.counter_code.proofs.BootRuns.{stands_still, at_last}
 use Rattle.counter_code.proofs.PlaceSteps.{held, register_at, Runs, Takes, runs, takes, request, silent, reaches}
 
 -- The address of a place.
@@ -80,16 +77,7 @@ place_stands c Returns = (standing (kind_of c.setup) (is_peripheral c.source)).5
 -- What is known at the ready boundary.
 pub all_done : (source : Source) (c : Counter) (kind : Kind) (x : Chip) → known (record c { source = source }) (at_last kind (is_peripheral source)) x ≡ held (record c { source = source }) Rests x
 all_done T0 c kind x = refl
-all_done Int c kind x = refl
-all_done Psp c kind x = refl
-all_done Ad c kind x = refl
-all_done Ssp c kind x = refl
-all_done Ccp1 c kind x = refl
-all_done Tmr2 c kind x = refl
-all_done Tmr1 c kind x = refl
-all_done Ee c kind x = refl
-all_done Bcl c kind x = refl
-all_done Ccp2 c kind x = refl
+all_done _ c kind x = refl
 
 -- The step of a place: it runs the place's instruction, or where control rests and the flag is set it takes an interrupt.
 module _ (c : Counter) (fine : IsCounter c) (target : Reg) (is_aimed : Aimed c.setup target) where
@@ -120,75 +108,39 @@ module _ (c : Counter) (fine : IsCounter c) (target : Reg) (is_aimed : Aimed c.s
   -- What holds after it.
   plain_stays : (place : Place) (x : Chip) (step : Step) → Runs c place x step → (b : ℕ) → (b == state_byte) ≡ false → step.after.regs.plain b ≡ x.regs.plain b
   plain_stays Opens x step r b other = ap (λ (memory : ℕ → Byte). memory b) r.plain ∙ ap (λ t. cond t x.w (x.regs.plain b)) other
-  plain_stays Rests x step r b other = ap (λ (memory : ℕ → Byte). memory b) r.plain
-  plain_stays Clears x step r b other = ap (λ (memory : ℕ → Byte). memory b) r.plain
-  plain_stays Loads x step r b other = ap (λ (memory : ℕ → Byte). memory b) r.plain
-  plain_stays Adds x step r b other = ap (λ (memory : ℕ → Byte). memory b) r.plain
-  plain_stays Commits x step r b other = ap (λ (memory : ℕ → Byte). memory b) r.plain
-  plain_stays Returns x step r b other = ap (λ (memory : ℕ → Byte). memory b) r.plain
-
-  still : (place : Place) (x : Chip) (step : Step) → Stays c target place x → Runs c place x step → Stands target (byte_of c.setup) step.after.regs
-  still place x step h r = stands_still c.setup target x.regs step.after.regs is_aimed r.tris (plain_stays place x step r) h.stands
+  plain_stays _ x step r b other = ap (λ (memory : ℕ → Byte). memory b) r.plain
 
   abbrev one_more : ℕ → ℕ
   one_more address = (address + 1) % 8192
 
+  pc_next : (place : Place) (x : Chip) (step : Step) → Stays c target place x → Runs c place x step → step.after.pc ≡ address_at c (next false place)
+  pc_next Rests x step h r = r.pc ∙ (let e : 0 + ready_address c ≡ ready_address c = omega arith in e)
+  pc_next Returns x step h r = r.pc ∙ h.stack refl
+  pc_next _ x step h r = r.pc ∙ ap one_more h.pc
+
+  stack_next : (place : Place) (x : Chip) (step : Step) → Stays c target place x → Runs c place x step → rests (next false place) ≡ false → step.after.stack 0 ≡ ready_address c
+  stack_next Rests x step h r e = absurd cc
+  stack_next Returns x step h r e = absurd cc
+  stack_next _ x step h r e = ap (λ (s : ℕ → ℕ). s 0) r.stack ∙ h.stack refl
+
+  clears_none : (place : Place) → is_clearing (next false place) ≡ false
+  clears_none Rests = refl
+  clears_none _ = refl
+
+  w_next : (place : Place) (x : Chip) (step : Step) → Stays c target place x → Runs c place x step → W_at c (next false place) (step.after.regs.plain state_byte) step.after.w
+  w_next Loads x step h r = r.w
+  w_next Adds x step h r = r.w ∙ (λ i. bits (num (h.w i) + num (sym r.plain i state_byte)))
+  w_next Opens x step h r = r.w ∙ sym (ap (λ (memory : ℕ → Byte). memory state_byte) r.plain)
+  w_next _ x step h r = tt
+
   pub after_run : (place : Place) (x : Chip) (step : Step) → Stays c target place x → Runs c place x step → Stays c target (next false place) step.after
-  after_run Rests x step h r = record {
+  after_run place x step h r = record {
     held = r.done;
-    pc = r.pc ∙ (let e : 0 + ready_address c ≡ ready_address c = omega arith in e);
-    stack = λ e. absurd cc;
-    flagged = λ e. absurd cc;
-    w = tt;
-    stands = still Rests x step h r;
-  }
-  after_run Clears x step h r = record {
-    held = r.done;
-    pc = r.pc ∙ ap one_more h.pc;
-    stack = λ e. ap (λ (s : ℕ → ℕ). s 0) r.stack ∙ h.stack refl;
-    flagged = λ e. absurd cc;
-    w = tt;
-    stands = still Clears x step h r;
-  }
-  after_run Loads x step h r = record {
-    held = r.done;
-    pc = r.pc ∙ ap one_more h.pc;
-    stack = λ e. ap (λ (s : ℕ → ℕ). s 0) r.stack ∙ h.stack refl;
-    flagged = λ e. absurd cc;
-    w = r.w;
-    stands = still Loads x step h r;
-  }
-  after_run Adds x step h r = record {
-    held = r.done;
-    pc = r.pc ∙ ap one_more h.pc;
-    stack = λ e. ap (λ (s : ℕ → ℕ). s 0) r.stack ∙ h.stack refl;
-    flagged = λ e. absurd cc;
-    w = r.w ∙ (λ i. bits (num (h.w i) + num (sym r.plain i state_byte)));
-    stands = still Adds x step h r;
-  }
-  after_run Opens x step h r = record {
-    held = r.done;
-    pc = r.pc ∙ ap one_more h.pc;
-    stack = λ e. ap (λ (s : ℕ → ℕ). s 0) r.stack ∙ h.stack refl;
-    flagged = λ e. absurd cc;
-    w = r.w ∙ sym (ap (λ (memory : ℕ → Byte). memory state_byte) r.plain);
-    stands = still Opens x step h r;
-  }
-  after_run Commits x step h r = record {
-    held = r.done;
-    pc = r.pc ∙ ap one_more h.pc;
-    stack = λ e. ap (λ (s : ℕ → ℕ). s 0) r.stack ∙ h.stack refl;
-    flagged = λ e. absurd cc;
-    w = tt;
-    stands = still Commits x step h r;
-  }
-  after_run Returns x step h r = record {
-    held = r.done;
-    pc = r.pc ∙ h.stack refl;
-    stack = λ e. absurd cc;
-    flagged = λ e. absurd cc;
-    w = tt;
-    stands = still Returns x step h r;
+    pc = pc_next place x step h r;
+    stack = stack_next place x step h r;
+    flagged = λ e. absurd (let never : false ≡ true = sym (clears_none place) ∙ e in cc);
+    w = w_next place x step h r;
+    stands = stands_still c.setup target x.regs step.after.regs is_aimed r.tris (plain_stays place x step r) h.stands;
   }
 
   pub after_taking : (x : Chip) (step : Step) → Stays c target Rests x → Takes c x step → flag c.source step.arrived.regs ≡ true → Stays c target Clears step.after

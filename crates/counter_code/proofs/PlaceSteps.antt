@@ -1,13 +1,13 @@
 -- What each place behind the boot does to a chip of which only the bank, the enables, GIE and the depth are known.
-use Rattle.std.specs.Prelude.{ℕ, zero, suc, ◌+◌, ◌%◌, ◌*◌, ◌<◌, Bool, true, false, ◌&&◌, ◌||◌, Option, Some, None}
-use Rattle.std.proofs.Common.{◌≡◌, refl, sym, ap, subst, ◌∙◌, arith}
+use Rattle.std.specs.Prelude.{ℕ, zero, suc, ◌+◌, ◌%◌, ◌<◌, Bool, true, false, ◌||◌, ◌==◌, Option, None}
+use Rattle.std.proofs.Common.{◌≡◌, refl, arith}
 use Rattle.pic_isa.specs.declared.sources.Source.{Source}
-use Rattle.pic_isa.specs.declared.sources.Source.TheVariants.{T0, Int, Psp, Ad, Ssp, Ccp1, Tmr2, Tmr1, Ee, Bcl, Ccp2}
+use Rattle.pic_isa.specs.declared.sources.Source.TheVariants.{T0, Int, Ee, Bcl, Ccp2}
 use Rattle.pic_regs.specs.Bytes.{Byte, bits, num, updated}
-use Rattle.pic_regs.specs.Map.{Reg, Absent, Intcon, Pir1, Pir2, Port, Plain, reg_in}
-use Rattle.pic_regs.specs.Registers.{Registers, flag, requested}
+use Rattle.pic_regs.specs.Map.{Reg, Absent, Intcon, Pir1, Pir2, Port, Plain}
+use Rattle.pic_regs.specs.Registers.{flag, requested}
 use Rattle.pic_regs.specs.Arrivals.{Sources, arrived}
-use Rattle.pic_machine.specs.declared.steps.Did.TheVariants.{Took, Ran}
+use Rattle.pic_machine.specs.declared.steps.Did.TheVariants.{Took}
 use Rattle.pic_machine.specs.declared.steps.PortWrite.{PortWrite}
 use Rattle.pic_machine.specs.Chip.{Chip}
 use Rattle.pic_machine.specs.Results.{shown, written}
@@ -16,8 +16,9 @@ use Rattle.pic_machine.specs.Boundary.{Step}
 use Rattle.pic_machine.proofs.TurnFacts.{running, taking}
 use Rattle.counter_code.specs.declared.counters.Counter.{Counter}
 use Rattle.counter_code.specs.Layout.{state_byte, ready_address}
-use Rattle.stack_bound.specs.Counts.{interrupts_on}
+use Rattle.stack_bound.specs.Counts.{is_taking, is_run_at, interrupts_on}
 use Rattle.stack_bound.specs.Urgent.{is_heard}
+use Rattle.stack_bound.specs.Firmware.{is_stop}
 use Rattle.counter_code.proofs.Story.{Place, Rests, Clears, Loads, Adds, Opens, Commits, Returns, rests, next, event_in_map}
 use Rattle.counter_code.proofs.Spots.{instruction_at}
 use Rattle.counter_code.proofs.BootSteps.{pie1_of, pie2_of, intcon_with}
@@ -86,8 +87,9 @@ flag_left _ is_set = is_set
 
 -- What a step is that runs the instruction of a place.
 pub record Runs (c : Counter) (place : Place) (x : Chip) (step : Step) : Type 0 where
-  pub word : ℕ
-  pub did : step.did ≡ Ran x.pc word
+  pub taking : is_taking step.did ≡ false
+  pub stop : is_stop step.did ≡ false
+  pub ran : (address : ℕ) → is_run_at address step.did ≡ (x.pc == address)
   pub on : interrupts_on step ≡ rests place
   pub hears : is_heard (event_in_map c) step ≡ rests place
   pub flags : flag c.source step.after.regs ≡ flag_left place (flag c.source step.arrived.regs)
@@ -104,39 +106,17 @@ abbrev RunsFrom : Counter → Place → Chip → Sources → ℕ → Type 0
 RunsFrom c place x arrivals word = Runs c place (held c place x) (running word (instruction_at c place) (register_at c place) arrivals (held c place x))
 
 clears : (source : Source) (c : Counter) (x : Chip) (arrivals : Sources) (word : ℕ) → RunsFrom (record c { source = source }) Clears x arrivals word
-clears T0 c x arrivals word = record { word = word; did = refl; on = refl; hears = refl; flags = refl; wrote = refl; port = refl; done = refl; pc = refl; stack = refl; w = refl; plain = refl; tris = refl }
-clears Int c x arrivals word = record { word = word; did = refl; on = refl; hears = refl; flags = refl; wrote = refl; port = refl; done = refl; pc = refl; stack = refl; w = refl; plain = refl; tris = refl }
-clears Psp c x arrivals word = record { word = word; did = refl; on = refl; hears = refl; flags = refl; wrote = refl; port = refl; done = refl; pc = refl; stack = refl; w = refl; plain = refl; tris = refl }
-clears Ad c x arrivals word = record { word = word; did = refl; on = refl; hears = refl; flags = refl; wrote = refl; port = refl; done = refl; pc = refl; stack = refl; w = refl; plain = refl; tris = refl }
-clears Ssp c x arrivals word = record { word = word; did = refl; on = refl; hears = refl; flags = refl; wrote = refl; port = refl; done = refl; pc = refl; stack = refl; w = refl; plain = refl; tris = refl }
-clears Ccp1 c x arrivals word = record { word = word; did = refl; on = refl; hears = refl; flags = refl; wrote = refl; port = refl; done = refl; pc = refl; stack = refl; w = refl; plain = refl; tris = refl }
-clears Tmr2 c x arrivals word = record { word = word; did = refl; on = refl; hears = refl; flags = refl; wrote = refl; port = refl; done = refl; pc = refl; stack = refl; w = refl; plain = refl; tris = refl }
-clears Tmr1 c x arrivals word = record { word = word; did = refl; on = refl; hears = refl; flags = refl; wrote = refl; port = refl; done = refl; pc = refl; stack = refl; w = refl; plain = refl; tris = refl }
-clears Ee c x arrivals word = record { word = word; did = refl; on = refl; hears = refl; flags = refl; wrote = refl; port = refl; done = refl; pc = refl; stack = refl; w = refl; plain = refl; tris = refl }
-clears Bcl c x arrivals word = record { word = word; did = refl; on = refl; hears = refl; flags = refl; wrote = refl; port = refl; done = refl; pc = refl; stack = refl; w = refl; plain = refl; tris = refl }
-clears Ccp2 c x arrivals word = record { word = word; did = refl; on = refl; hears = refl; flags = refl; wrote = refl; port = refl; done = refl; pc = refl; stack = refl; w = refl; plain = refl; tris = refl }
+clears T0 c x arrivals word = search
+clears _ c x arrivals word = search
 
 rests_on : (source : Source) (c : Counter) (x : Chip) (arrivals : Sources) (word : ℕ) → RunsFrom (record c { source = source }) Rests x arrivals word
-rests_on T0 c x arrivals word = record { word = word; did = refl; on = refl; hears = refl; flags = refl; wrote = refl; port = refl; done = refl; pc = refl; stack = refl; w = refl; plain = refl; tris = refl }
-rests_on Int c x arrivals word = record { word = word; did = refl; on = refl; hears = refl; flags = refl; wrote = refl; port = refl; done = refl; pc = refl; stack = refl; w = refl; plain = refl; tris = refl }
-rests_on Psp c x arrivals word = record { word = word; did = refl; on = refl; hears = refl; flags = refl; wrote = refl; port = refl; done = refl; pc = refl; stack = refl; w = refl; plain = refl; tris = refl }
-rests_on Ad c x arrivals word = record { word = word; did = refl; on = refl; hears = refl; flags = refl; wrote = refl; port = refl; done = refl; pc = refl; stack = refl; w = refl; plain = refl; tris = refl }
-rests_on Ssp c x arrivals word = record { word = word; did = refl; on = refl; hears = refl; flags = refl; wrote = refl; port = refl; done = refl; pc = refl; stack = refl; w = refl; plain = refl; tris = refl }
-rests_on Ccp1 c x arrivals word = record { word = word; did = refl; on = refl; hears = refl; flags = refl; wrote = refl; port = refl; done = refl; pc = refl; stack = refl; w = refl; plain = refl; tris = refl }
-rests_on Tmr2 c x arrivals word = record { word = word; did = refl; on = refl; hears = refl; flags = refl; wrote = refl; port = refl; done = refl; pc = refl; stack = refl; w = refl; plain = refl; tris = refl }
-rests_on Tmr1 c x arrivals word = record { word = word; did = refl; on = refl; hears = refl; flags = refl; wrote = refl; port = refl; done = refl; pc = refl; stack = refl; w = refl; plain = refl; tris = refl }
-rests_on Ee c x arrivals word = record { word = word; did = refl; on = refl; hears = refl; flags = refl; wrote = refl; port = refl; done = refl; pc = refl; stack = refl; w = refl; plain = refl; tris = refl }
-rests_on Bcl c x arrivals word = record { word = word; did = refl; on = refl; hears = refl; flags = refl; wrote = refl; port = refl; done = refl; pc = refl; stack = refl; w = refl; plain = refl; tris = refl }
-rests_on Ccp2 c x arrivals word = record { word = word; did = refl; on = refl; hears = refl; flags = refl; wrote = refl; port = refl; done = refl; pc = refl; stack = refl; w = refl; plain = refl; tris = refl }
+rests_on T0 c x arrivals word = search
+rests_on _ c x arrivals word = search
 
 pub runs : (c : Counter) (place : Place) (x : Chip) (arrivals : Sources) (word : ℕ) → RunsFrom c place x arrivals word
 runs c Rests x arrivals word = rests_on c.source c x arrivals word
 runs c Clears x arrivals word = clears c.source c x arrivals word
-runs c Loads x arrivals word = record { word = word; did = refl; on = refl; hears = refl; flags = refl; wrote = refl; port = refl; done = refl; pc = refl; stack = refl; w = refl; plain = refl; tris = refl }
-runs c Adds x arrivals word = record { word = word; did = refl; on = refl; hears = refl; flags = refl; wrote = refl; port = refl; done = refl; pc = refl; stack = refl; w = refl; plain = refl; tris = refl }
-runs c Opens x arrivals word = record { word = word; did = refl; on = refl; hears = refl; flags = refl; wrote = refl; port = refl; done = refl; pc = refl; stack = refl; w = refl; plain = refl; tris = refl }
-runs c Commits x arrivals word = record { word = word; did = refl; on = refl; hears = refl; flags = refl; wrote = refl; port = refl; done = refl; pc = refl; stack = refl; w = refl; plain = refl; tris = refl }
-runs c Returns x arrivals word = record { word = word; did = refl; on = refl; hears = refl; flags = refl; wrote = refl; port = refl; done = refl; pc = refl; stack = refl; w = refl; plain = refl; tris = refl }
+runs c _ x arrivals word = search
 
 -- And a step that takes an interrupt.
 pub record Takes (c : Counter) (x : Chip) (step : Step) : Type 0 where
@@ -153,17 +133,8 @@ pub record Takes (c : Counter) (x : Chip) (step : Step) : Type 0 where
   pub tris : step.after.regs.tris ≡ x.regs.tris
 
 takes_at : (source : Source) (c : Counter) (x : Chip) (arrivals : Sources) → Takes (record c { source = source }) (held (record c { source = source }) Rests x) (taking arrivals (held (record c { source = source }) Rests x))
-takes_at T0 c x arrivals = record { did = refl; on = refl; hears = refl; flags = refl; wrote = refl; port = refl; done = refl; pc = refl; stack = refl; plain = refl; tris = refl }
-takes_at Int c x arrivals = record { did = refl; on = refl; hears = refl; flags = refl; wrote = refl; port = refl; done = refl; pc = refl; stack = refl; plain = refl; tris = refl }
-takes_at Psp c x arrivals = record { did = refl; on = refl; hears = refl; flags = refl; wrote = refl; port = refl; done = refl; pc = refl; stack = refl; plain = refl; tris = refl }
-takes_at Ad c x arrivals = record { did = refl; on = refl; hears = refl; flags = refl; wrote = refl; port = refl; done = refl; pc = refl; stack = refl; plain = refl; tris = refl }
-takes_at Ssp c x arrivals = record { did = refl; on = refl; hears = refl; flags = refl; wrote = refl; port = refl; done = refl; pc = refl; stack = refl; plain = refl; tris = refl }
-takes_at Ccp1 c x arrivals = record { did = refl; on = refl; hears = refl; flags = refl; wrote = refl; port = refl; done = refl; pc = refl; stack = refl; plain = refl; tris = refl }
-takes_at Tmr2 c x arrivals = record { did = refl; on = refl; hears = refl; flags = refl; wrote = refl; port = refl; done = refl; pc = refl; stack = refl; plain = refl; tris = refl }
-takes_at Tmr1 c x arrivals = record { did = refl; on = refl; hears = refl; flags = refl; wrote = refl; port = refl; done = refl; pc = refl; stack = refl; plain = refl; tris = refl }
-takes_at Ee c x arrivals = record { did = refl; on = refl; hears = refl; flags = refl; wrote = refl; port = refl; done = refl; pc = refl; stack = refl; plain = refl; tris = refl }
-takes_at Bcl c x arrivals = record { did = refl; on = refl; hears = refl; flags = refl; wrote = refl; port = refl; done = refl; pc = refl; stack = refl; plain = refl; tris = refl }
-takes_at Ccp2 c x arrivals = record { did = refl; on = refl; hears = refl; flags = refl; wrote = refl; port = refl; done = refl; pc = refl; stack = refl; plain = refl; tris = refl }
+takes_at T0 c x arrivals = search
+takes_at _ c x arrivals = search
 
 pub takes : (c : Counter) (x : Chip) (arrivals : Sources) → Takes c (held c Rests x) (taking arrivals (held c Rests x))
 takes c x arrivals = takes_at c.source c x arrivals
@@ -174,44 +145,21 @@ or_false true = refl
 or_false false = refl
 
 request_of : (source : Source) (c : Counter) (x : Chip) (arrivals : Sources) → requested (arrived arrivals (held (record c { source = source }) Rests x).regs) ≡ flag source (arrived arrivals (held (record c { source = source }) Rests x).regs)
-request_of T0 c x arrivals = simp or_false
-request_of Int c x arrivals = simp or_false
-request_of Psp c x arrivals = simp or_false
-request_of Ad c x arrivals = simp or_false
-request_of Ssp c x arrivals = simp or_false
-request_of Ccp1 c x arrivals = simp or_false
-request_of Tmr2 c x arrivals = simp or_false
-request_of Tmr1 c x arrivals = simp or_false
-request_of Ee c x arrivals = simp or_false
-request_of Bcl c x arrivals = simp or_false
 request_of Ccp2 c x arrivals = refl
+request_of _ c x arrivals = simp or_false
 
 pub request : (c : Counter) (x : Chip) (arrivals : Sources) → requested (arrived arrivals (held c Rests x).regs) ≡ flag c.source (arrived arrivals (held c Rests x).regs)
 request c x arrivals = request_of c.source c x arrivals
 
 pub silent : (c : Counter) (place : Place) (x : Chip) (arrivals : Sources) → rests place ≡ false → requested (arrived arrivals (held c place x).regs) ≡ false
 silent c Rests x arrivals e = absurd cc
-silent c Clears x arrivals e = refl
-silent c Loads x arrivals e = refl
-silent c Adds x arrivals e = refl
-silent c Opens x arrivals e = refl
-silent c Commits x arrivals e = refl
-silent c Returns x arrivals e = refl
+silent c _ x arrivals e = refl
 
 -- Each reaches its register.
 flag_reached : (source : Source) (c : Counter) (x : Chip) (arrivals : Sources) →
     operand (field (instruction_at (record c { source = source }) Clears)) (arrived arrivals (held (record c { source = source }) Clears x).regs) ≡ flag_in source
 flag_reached T0 c x arrivals = refl
-flag_reached Int c x arrivals = refl
-flag_reached Psp c x arrivals = refl
-flag_reached Ad c x arrivals = refl
-flag_reached Ssp c x arrivals = refl
-flag_reached Ccp1 c x arrivals = refl
-flag_reached Tmr2 c x arrivals = refl
-flag_reached Tmr1 c x arrivals = refl
-flag_reached Ee c x arrivals = refl
-flag_reached Bcl c x arrivals = refl
-flag_reached Ccp2 c x arrivals = refl
+flag_reached _ c x arrivals = refl
 
 port_reached : (port : ℕ) (c : Counter) (x : Chip) (arrivals : Sources) → port < 5 →
     operand (field (instruction_at (record c { port = port }) Commits)) (arrived arrivals (held c Commits x).regs) ≡ Port port
@@ -223,10 +171,6 @@ port_reached (suc (suc (suc (suc zero)))) c x arrivals h = refl
 port_reached (suc (suc (suc (suc (suc n))))) c x arrivals h = absurd (omega arith)
 
 pub reaches : (c : Counter) (place : Place) (x : Chip) (arrivals : Sources) → c.port < 5 → operand (field (instruction_at c place)) (arrived arrivals (held c place x).regs) ≡ register_at c place
-reaches c Rests x arrivals h = refl
 reaches c Clears x arrivals h = flag_reached c.source c x arrivals
-reaches c Loads x arrivals h = refl
-reaches c Adds x arrivals h = refl
-reaches c Opens x arrivals h = refl
 reaches c Commits x arrivals h = port_reached c.port c x arrivals h
-reaches c Returns x arrivals h = refl
+reaches c _ x arrivals h = refl

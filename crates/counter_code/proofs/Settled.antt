@@ -1,5 +1,5 @@
 -- A counter whose log tells its story has settled once no latch has come for long enough.
-use Rattle.std.specs.Prelude.{ℕ, suc, ◌+◌, ◌-◌, ◌*◌, ◌≤◌, ◌<◌, Bool, true, false, not, ◌&&◌}
+use Rattle.std.specs.Prelude.{ℕ, suc, ◌+◌, ◌-◌, ◌*◌, ◌≤◌, ◌<◌, Bool, true, false, ◌&&◌}
 use Rattle.std.proofs.Common.{◌≡◌, refl, ◌∙◌, ap, subst, arith}
 use Rattle.pic_regs.specs.Bytes.{one_if}
 use Rattle.pic_regs.specs.Registers.{flag}
@@ -8,7 +8,7 @@ use Rattle.counter_code.specs.declared.counters.Counter.{Counter}
 use Rattle.counter_code.specs.Counters.{IsCounter}
 use Rattle.counter_code.specs.Maps.{map_of}
 use Rattle.counter_code.proofs.BoundFacts.{settle_of_counter}
-use Rattle.stack_bound.specs.Counts.{chip_after, takes, latches, clears, commit_count, flag_after}
+use Rattle.stack_bound.specs.Counts.{chip_after, takes, latches, commit_count, flag_after}
 use Rattle.stack_bound.specs.Settled.{Settled}
 use Rattle.stack_bound.proofs.CountFacts.{one_more}
 use Rattle.stack_bound.proofs.Falls.{falls_for_good}

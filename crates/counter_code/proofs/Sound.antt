@@ -1,8 +1,8 @@
--- What each step of a run keeps: none stops, each writes what is listed, the depth is at most 1, and what is set up stands.
-use Rattle.std.specs.Prelude.{ℕ, zero, suc, ◌+◌, ◌<◌, ◌≤◌, Bool, true, false, ◌==◌, cond, List, [], ◌∷◌, Option, Some, None, IfSome}
+-- What each step of a run keeps: none stops, each writes what is listed, the depth is at most 1; the boot clears no flag, and what
+-- is set up stands.
+use Rattle.std.specs.Prelude.{ℕ, ◌<◌, ◌≤◌, Bool, true, false, ◌==◌, cond, List, Option, Some, None, IfSome}
 use Rattle.std.proofs.Common.{◌≡◌, refl, sym, ap, subst, ◌∙◌, arith, lit≤, ◌⊎◌, inl, inr}
 use Rattle.std.proofs.lemmas.Bool.{cases_lt, eqb-true}
-use Rattle.pic_isa.specs.Names.{register_at}
 use Rattle.pic_isa.specs.declared.sources.Source.{Source}
 use Rattle.pic_regs.specs.declared.starts.Start.{Start}
 use Rattle.pic_regs.specs.Bytes.{num, bits}
@@ -11,7 +11,7 @@ use Rattle.pic_regs.specs.Registers.{Registers, read}
 use Rattle.pic_regs.specs.Arrivals.{Sources}
 use Rattle.pic_regs.proofs.SetupFacts.{Suits}
 use Rattle.pic_machine.specs.Chip.{Chip}
-use Rattle.pic_machine.specs.Run.{Log, run, program_of, power_on, arrivals_of}
+use Rattle.pic_machine.specs.Run.{Log, program_of, power_on, arrivals_of}
 use Rattle.counter_code.specs.declared.counters.Counter.{Counter}
 use Rattle.counter_code.specs.declared.counters.SetupAt.{SetupAt}
 use Rattle.counter_code.specs.Counters as programs
@@ -19,23 +19,22 @@ use Rattle.counter_code.specs.Counters.{IsCounter, IsSetup, setups_of}
 use Rattle.counter_code.specs.Layout.{image_of}
 use Rattle.counter_code.specs.Maps.{map_of}
 use Rattle.stack_bound.specs.Counts.{chip_after, clears}
-use Rattle.stack_bound.specs.MapNames.{byte_at, is_listed}
-use Rattle.stack_bound.specs.Ready.{ReadyAt, BeforeReady}
+use Rattle.stack_bound.specs.MapNames.{byte_at}
+use Rattle.stack_bound.specs.Ready.{BeforeReady}
 use Rattle.stack_bound.specs.Boots.{FlagsStay}
 use Rattle.stack_bound.specs.Setups.{SetupsStand, last_setup}
 use Rattle.stack_bound.specs.Firmware.{is_stop}
 use Rattle.stack_bound.proofs.Heard.{chip_after_is_of_the_run}
-use Rattle.counter_code.proofs.Story.{Place, Rests, Clears, Loads, Adds, Opens, Commits, Returns, past, Story}
+use Rattle.counter_code.proofs.Story.{Place, Rests, past, Story}
 use Rattle.counter_code.proofs.Spots.{byte_of}
 use Rattle.counter_code.proofs.Targets.{Aimed, aimed, Stands}
-use Rattle.counter_code.proofs.BootRuns.{chip_at, log_of, Along, each_step}
+use Rattle.counter_code.proofs.BootRuns.{chip_at, log_of, boot_steps, Along, each_step}
 use Rattle.counter_code.proofs.Writes.{Listed, boot_listed}
 use Rattle.counter_code.proofs.PlaceSteps.{depth_at}
-use Rattle.counter_code.proofs.PlaceRuns.{Stays}
 use Rattle.counter_code.proofs.PlaceFacts.{not_cleared}
 use Rattle.counter_code.proofs.Follows.{ready_from, shown_at}
 use Rattle.counter_code.proofs.Past.{each_moment, from_ready}
-use Rattle.counter_code.proofs.Told.{boot_steps, place_in, stays, facts, story, story_is_ready}
+use Rattle.counter_code.proofs.Told.{place_in, stays, facts, story, story_is_ready}
 
 -- The byte of the only setup that names an address.
 its_setup : (s : SetupAt) (a byte : ℕ) → IsSetup s → last_setup (setups_of (Some s)) a ≡ Some byte → (s.address ≡ a) × (s.byte ≡ byte)
@@ -84,7 +83,7 @@ module _ (c : Counter) (fine : IsCounter c) (start : Start) (list : List Sources
   same n = chip_after_is_of_the_run (program_of (image_of c)) (power_on start) (arrivals_of list) n
 
   pub goes_on : (k : ℕ) → is_stop (the_log k).did ≡ false
-  goes_on = each_moment (boot_steps c) (λ n. is_stop (the_log n).did ≡ false) (λ n less. ap is_stop (way n less).step.did) (λ k. (facts c fine start list k).goes_on)
+  goes_on = each_moment (boot_steps c) (λ n. is_stop (the_log n).did ≡ false) (λ n less. (way n less).step.stop) (λ k. (facts c fine start list k).goes_on)
 
   pub writes_listed : (k : ℕ) → Listed c (the_log k).wrote
   writes_listed = each_moment (boot_steps c) (λ n. Listed c (the_log n).wrote)

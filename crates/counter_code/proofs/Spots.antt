@@ -1,16 +1,14 @@
 -- The code of a counter by spots, one for each kind of instruction, whatever the counter is; and what stands at an address.
-use Rattle.std.specs.Prelude.{ℕ, zero, suc, ◌+◌, ◌<◌, Bool, true, false, List, [], ◌∷◌, ◌++◌, map, length, take, drop, Option, Some, None, IfSome, if◌then◌else◌, ◌==◌, cond}
+use Rattle.std.specs.Prelude.{ℕ, zero, suc, ◌+◌, Bool, true, false, List, [], ◌∷◌, ◌++◌, map, length, take, drop, Option, Some, None, if◌then◌else◌, ◌==◌, cond}
 use Rattle.std.specs.List.{AllByRecursion}
 use Rattle.std.proofs.Common.{◌≡◌, refl, ap, subst, ◌∙◌, arith}
 use Rattle.std.proofs.lemmas.Bool.{eq-eqb, ne_eqb}
 use Rattle.pic_isa.specs.declared.instructions.Dest.TheVariants.{W}
 use Rattle.pic_isa.specs.declared.instructions.Instr.{Instr}
 use Rattle.pic_isa.specs.declared.instructions.Instr.TheVariants.{Addwf, Bcf, Bsf, Goto, Movlw, Movwf, Retfie}
-use Rattle.pic_isa.specs.declared.sources.Source.{Source}
 use Rattle.pic_isa.specs.Instructions.{FieldsFit, word_of, instruction_of}
 use Rattle.pic_isa.specs.Sources.{flag_of, enable_of}
 use Rattle.pic_isa.proofs.RowFacts.{written-found}
-use Rattle.hex_file.specs.declared.images.Word.{Word}
 use Rattle.pic_machine.specs.Run.{word_at, program_of}
 use Rattle.counter_code.specs.declared.counters.Counter.{Counter}
 use Rattle.counter_code.specs.declared.counters.SetupAt.{SetupAt}

@@ -96,8 +96,8 @@ pub record Story (c : Counter) (log : Log) : Type 0 where
   pub hears_when : (k : ℕ) → is_heard (event_in_map c) (log (past ready k)) ≡ rests (place k)
   pub values : (k : ℕ) → byte_at (chip_after log (suc (past ready k))) state_byte ≡ value_after c (place k) (byte_at (chip_after log (past ready k)) state_byte)
   pub puts : (k : ℕ) → put_by (log (past ready k)).port ≡ puts_at c (place k) (byte_at (chip_after log (past ready k)) state_byte)
-  -- At each step, in the boot too: the flag, before any, is clear; a latch sets it and a clearing clears it, and nothing else
-  -- changes it.
+  -- At each step, in the boot too: a latch sets the flag, which is clear before any step; a clearing clears it, and nothing
+  -- else changes it.
   pub arrival : (n : ℕ) → one_if (flag c.source (chip_after log n).regs) + one_if (latches c.source (log n)) ≡ one_if (flag c.source (log n).arrived.regs)
   pub flag_at_first : flag c.source (chip_after log 0).regs ≡ false
   pub ledger : (n : ℕ) → one_if (flag c.source (chip_after log n).regs) + one_if (latches c.source (log n)) ≡ one_if (flag c.source (chip_after log (suc n)).regs) + one_if (clears c.source (log n))

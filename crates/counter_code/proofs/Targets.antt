@@ -1,15 +1,14 @@
 -- The register that a counter's setup names, as the code reaches it, and what is then said of its byte.
-use Rattle.std.specs.Prelude.{ℕ, zero, suc, ◌||◌, ◌+◌, ◌-◌, ◌*◌, ◌/◌, ◌%◌, ◌<◌, ◌≤◌, Bool, true, false, cond, List, [], ◌∷◌, Option, Some, None, IfSome, ◌==◌, take}
-use Rattle.std.proofs.Common.{◌≡◌, refl, sym, ap, subst, ◌∙◌, arith}
+use Rattle.std.specs.Prelude.{ℕ, zero, suc, ◌||◌, ◌+◌, ◌-◌, ◌*◌, ◌/◌, ◌%◌, ◌<◌, ◌≤◌, Bool, true, false, cond, List, Option, Some, None, IfSome, ◌==◌}
+use Rattle.std.proofs.Common.{◌≡◌, refl, sym, ap, ◌∙◌, arith}
 use Rattle.std.proofs.lemmas.Bool.{leb-true, leb-false, eq-eqb, eqb-false, ne_eqb}
 use Rattle.std.proofs.lemmas.List.{append-nil}
 use Rattle.std.specs.List.{flat_map}
 use Rattle.frp_tree.specs.declared.syntax.Setup.{Setup}
 use Rattle.pic_isa.specs.declared.sources.Source.{Source}
-use Rattle.pic_isa.specs.declared.sources.Source.TheVariants.{T0, Int, Psp, Ad, Ssp, Ccp1, Tmr2, Tmr1, Ee, Bcl, Ccp2}
+use Rattle.pic_isa.specs.declared.sources.Source.TheVariants.{T0, Int}
 use Rattle.pic_isa.specs.Names.{port_at}
-use Rattle.pic_isa.proofs.NameFacts.{register_below}
-use Rattle.pic_regs.specs.Bytes.{Byte, num, bits, one_if, updated}
+use Rattle.pic_regs.specs.Bytes.{Byte, bits, one_if, updated}
 use Rattle.pic_regs.specs.Map.{Reg, Absent, Intcon, Port, Tris, Plain, tris_bits, reg_in, reg_at, over_tris}
 use Rattle.pic_regs.specs.Registers.{Registers}
 use Rattle.pic_regs.specs.Arrivals.{Sources, arrived}
@@ -22,12 +21,12 @@ use Rattle.pic_machine.specs.Exec.{field, operand}
 use Rattle.counter_code.specs.declared.counters.Counter.{Counter}
 use Rattle.counter_code.specs.declared.counters.SetupAt.{SetupAt}
 use Rattle.counter_code.specs.Counters.{IsSetup, setups_of}
-use Rattle.counter_code.specs.Layout.{state_byte, in_bank_1, low_bits, is_peripheral}
+use Rattle.counter_code.specs.Layout.{state_byte, in_bank_1, is_peripheral}
 use Rattle.counter_code.proofs.CodeFacts.{setup_below}
 use Rattle.stack_bound.specs.Counts.{put_by}
 use Rattle.stack_bound.specs.Follows.{put_on}
-use Rattle.counter_code.proofs.Spots.{Kind, NoSetup, LowSetup, HighSetup, Spot, LoadsInit, StoresInit, LoadsSetup, StoresSetup, ChoosesHigh, EnablesHigh, ChoosesLow, Enables, TurnsOn, Jumps, At, kind_of, address_of, byte_of, instruction}
-use Rattle.counter_code.proofs.BootSteps.{Done, Stores, is_high, is_target, needs, before, fits, register_of}
+use Rattle.counter_code.proofs.Spots.{Kind, NoSetup, LowSetup, HighSetup, Spot, StoresSetup, ChoosesHigh, EnablesHigh, ChoosesLow, Enables, At, kind_of, byte_of, instruction}
+use Rattle.counter_code.proofs.BootSteps.{Done, Stores, is_high, is_target, before, fits, register_of}
 
 -- The setup's register is the target.
 abbrev pub Aimed : Option SetupAt → Reg → Type 0
@@ -36,7 +35,7 @@ Aimed (Some s) target = (reg_at s.address ≡ target) × Suits s.register s.addr
 
 pub aimed : (setup : Option SetupAt) → IfSome setup IsSetup → (target : Reg) × Aimed setup target
 aimed None fine = (Absent, refl)
-aimed (Some s) fine = let may = may_set_up s.register s.address fine.0 in (may.0, (may.1, may.2, fine.1, setup_below (Some s) fine))
+aimed (Some s) fine = (reg_at s.address, (refl, may_set_up s.register s.address fine.0, fine.1, setup_below (Some s) fine))
 
 pub suits_target : (name : List ℕ) (a : ℕ) (target : Reg) → Suits name a target → is_target target ≡ true
 suits_target name a (Port n) suits = refl
@@ -79,29 +78,12 @@ enable_reached : (source : Source) (c : Counter) (target : Reg) (st : Done) (x :
     ≡ register_of (record c { source = source }) target EnablesHigh
 enable_reached T0 c target st x arrivals e = absurd cc
 enable_reached Int c target st x arrivals e = absurd cc
-enable_reached Psp c target st x arrivals e = refl
-enable_reached Ad c target st x arrivals e = refl
-enable_reached Ssp c target st x arrivals e = refl
-enable_reached Ccp1 c target st x arrivals e = refl
-enable_reached Tmr2 c target st x arrivals e = refl
-enable_reached Tmr1 c target st x arrivals e = refl
-enable_reached Ee c target st x arrivals e = refl
-enable_reached Bcl c target st x arrivals e = refl
-enable_reached Ccp2 c target st x arrivals e = refl
+enable_reached _ c target st x arrivals e = refl
 
 intcon_reached : (source : Source) (c : Counter) (st : Done) (x : Chip) (arrivals : Sources) →
     operand (field (instruction (record c { source = source }) Enables)) (arrived arrivals (before (record c { source = source }) Enables st x).regs) ≡ Intcon
 intcon_reached T0 c st x arrivals = refl
-intcon_reached Int c st x arrivals = refl
-intcon_reached Psp c st x arrivals = refl
-intcon_reached Ad c st x arrivals = refl
-intcon_reached Ssp c st x arrivals = refl
-intcon_reached Ccp1 c st x arrivals = refl
-intcon_reached Tmr2 c st x arrivals = refl
-intcon_reached Tmr1 c st x arrivals = refl
-intcon_reached Ee c st x arrivals = refl
-intcon_reached Bcl c st x arrivals = refl
-intcon_reached Ccp2 c st x arrivals = refl
+intcon_reached _ c st x arrivals = refl
 
 -- A spot of the kinds that a boot of this shape has.
 abbrev pub belongs : Kind → Bool → Spot → Bool
@@ -117,17 +99,11 @@ is_there c s = belongs (kind_of c.setup) (is_peripheral c.source) s
 
 pub reaches : (c : Counter) (target : Reg) (s : Spot) (st : Done) (x : Chip) (arrivals : Sources) → Aimed c.setup target → is_there c s ≡ true
     → operand (field (instruction c s)) (arrived arrivals (before c s st x).regs) ≡ register_of c target s
-reaches c target LoadsInit st x arrivals is_aimed there = refl
-reaches c target StoresInit st x arrivals is_aimed there = refl
-reaches c target LoadsSetup st x arrivals is_aimed there = refl
 reaches c target StoresSetup st x arrivals is_aimed there = target_of_setup c.setup c target st x arrivals is_aimed there
-reaches c target ChoosesHigh st x arrivals is_aimed there = refl
 reaches c target EnablesHigh st x arrivals is_aimed there = enable_reached c.source c target st x arrivals there
-reaches c target ChoosesLow st x arrivals is_aimed there = refl
 reaches c target Enables st x arrivals is_aimed there = intcon_reached c.source c st x arrivals
-reaches c target TurnsOn st x arrivals is_aimed there = refl
-reaches c target Jumps st x arrivals is_aimed there = refl
 reaches c target (At place) st x arrivals is_aimed there = absurd cc
+reaches c target _ st x arrivals is_aimed there = refl
 
 target_fits : (setup : Option SetupAt) (target : Reg) → Aimed setup target → has_setup (kind_of setup) ≡ true → is_target target ≡ true
 target_fits None target is_aimed there = absurd cc

@@ -1,12 +1,12 @@
 -- Every run of a counter's image tells the story of the counter.
-use Rattle.std.specs.Prelude.{ℕ, zero, suc, ◌+◌, ◌-◌, ◌%◌, ◌<◌, ◌≤◌, Bool, true, false, ◌||◌, ◌==◌, cond, List, [], ◌∷◌, length, take, Option, Some, None}
+use Rattle.std.specs.Prelude.{ℕ, zero, suc, ◌+◌, ◌%◌, ◌<◌, ◌≤◌, Bool, true, false, ◌||◌, ◌==◌, cond, List, [], length, take, Option, Some, None}
 use Rattle.std.proofs.Common.{◌≡◌, refl, sym, ap, subst, ◌∙◌, arith, lit≤, ◌⊎◌, inl, inr}
 use Rattle.std.proofs.lemmas.Bool.{cases_lt, eqb-false}
 use Rattle.std.proofs.Math.Seq.{take-length}
 use Rattle.pic_isa.specs.declared.sources.Source.{Source}
-use Rattle.pic_isa.specs.declared.sources.Source.TheVariants.{T0, Int, Psp, Ad, Ssp, Ccp1, Tmr2, Tmr1, Ee, Bcl, Ccp2}
+use Rattle.pic_isa.specs.declared.sources.Source.TheVariants.{T0}
 use Rattle.pic_regs.specs.declared.starts.Start.{Start}
-use Rattle.pic_regs.specs.Bytes.{bits, num, one_if}
+use Rattle.pic_regs.specs.Bytes.{num, one_if}
 use Rattle.pic_regs.specs.Map.{Reg}
 use Rattle.pic_regs.specs.Registers.{Registers, flag}
 use Rattle.pic_regs.specs.Arrivals.{Sources}
@@ -14,31 +14,24 @@ use Rattle.pic_regs.specs.Start.{registers_on}
 use Rattle.pic_regs.proofs.ByteFacts.{num-bits}
 use Rattle.pic_machine.specs.declared.steps.PortWrite.{PortWrite}
 use Rattle.pic_machine.specs.Chip.{Chip}
-use Rattle.pic_machine.specs.Boundary.{Step}
-use Rattle.pic_machine.specs.Run.{Log, program_of, power_on, arrivals_of, after, run}
+use Rattle.pic_machine.specs.Run.{Log, program_of, power_on, arrivals_of}
 use Rattle.pic_machine.proofs.TurnFacts.{flag-latched}
 use Rattle.counter_code.specs.declared.counters.Counter.{Counter}
 use Rattle.counter_code.specs.declared.counters.SetupAt.{SetupAt}
 use Rattle.counter_code.specs.Counters as programs
 use Rattle.counter_code.specs.Counters.{IsCounter, setups_of}
 use Rattle.counter_code.specs.Layout.{state_byte, in_bank_1, is_peripheral, image_of, ready_address, open_address, commit_address}
-use Rattle.stack_bound.specs.Counts.{chip_after, is_taking, is_run_at, takes, ran_at, latches, clears, interrupts_on, port_writes, put_by}
+use Rattle.stack_bound.specs.Counts.{chip_after, takes, latches, clears, port_writes}
 use Rattle.stack_bound.specs.MapNames.{byte_at}
 use Rattle.stack_bound.specs.Follows.{setup_puts}
 use Rattle.stack_bound.proofs.Heard.{chip_after_is_of_the_run}
 use Rattle.counter_code.proofs.Past.{each_moment}
-use Rattle.counter_code.proofs.Story.{Place, Rests, next, past, rests, value_after, puts_at, event_in_map, is_opening, is_committing, is_clearing, Story}
+use Rattle.counter_code.proofs.Story.{Place, Rests, next, past, rests, value_after, puts_at, Story}
 use Rattle.counter_code.proofs.Spots.{Kind, NoSetup, LowSetup, HighSetup, running_order, kind_of, byte_of, ready_at, ready_is}
 use Rattle.counter_code.proofs.Targets.{Aimed, aimed, has_setup, Stands}
-use Rattle.counter_code.proofs.BootSteps.{known}
-use Rattle.counter_code.proofs.BootRuns.{chip_at, log_of, is_special, at_last, BootAt, Along, each_step, at_ready}
-use Rattle.counter_code.proofs.PlaceSteps.{held, depth_at}
-use Rattle.counter_code.proofs.PlaceRuns.{Stays, all_done, address_at}
+use Rattle.counter_code.proofs.BootRuns.{chip_at, log_of, at_last, boot_steps, BootAt, Along, each_step, at_ready}
+use Rattle.counter_code.proofs.PlaceRuns.{Stays, all_done}
 use Rattle.counter_code.proofs.PlaceFacts.{Facts, led, ledger_of, not_cleared}
-
--- The steps up to the ready boundary.
-abbrev pub boot_steps : Counter → ℕ
-boot_steps c = length (running_order (kind_of c.setup) (is_peripheral c.source))
 
 soon : (kind : Kind) (peripheral : Bool) → length (running_order kind peripheral) ≤ 13
 soon NoSetup true = lit≤ tt
@@ -76,16 +69,7 @@ front puts true = (length puts, sym (take-length puts))
 
 flag_first : (source : Source) (start : Start) → flag source (registers_on start) ≡ false
 flag_first T0 start = refl
-flag_first Int start = refl
-flag_first Psp start = refl
-flag_first Ad start = refl
-flag_first Ssp start = refl
-flag_first Ccp1 start = refl
-flag_first Tmr2 start = refl
-flag_first Tmr1 start = refl
-flag_first Ee start = refl
-flag_first Bcl start = refl
-flag_first Ccp2 start = refl
+flag_first _ start = refl
 
 module _ (c : Counter) (fine : IsCounter c) (start : Start) (list : List Sources) where
   abbrev x : ℕ → Chip
@@ -142,7 +126,7 @@ module _ (c : Counter) (fine : IsCounter c) (start : Start) (list : List Sources
   not_there : (n : ℕ) → n < ready → (chip_after the_log n).pc ≡ ready_address c → ⊥
   not_there n h e =
       eqb-false (way n h).address (ready_at (kind_of c.setup) (is_peripheral c.source)) (plain n h).0
-          (sym (way n h).here.pc ∙ ap (λ (y : Chip). y.pc) (sym (same n)) ∙ e ∙ ready_is c)
+      (sym (way n h).here.pc ∙ ap (λ (y : Chip). y.pc) (sym (same n)) ∙ e ∙ ready_is c)
 
   boot_puts_by : (n : ℕ) → n ≤ ready → (n < ready) ⊎ (ready ≤ n) → (i : ℕ) × (port_writes the_log n ≡ take i (setup_puts (programs.program_of c)))
   boot_puts_by n h (inl less) =
@@ -178,10 +162,10 @@ module _ (c : Counter) (fine : IsCounter c) (start : Start) (list : List Sources
     ready = ready;
     ready_is_soon = soon (kind_of c.setup) (is_peripheral c.source);
     not_there = not_there;
-    boot_takes = λ k h. ap is_taking (way k h).step.did;
+    boot_takes = λ k h. (way k h).step.taking;
     boot_is_off = λ k h. (way k h).step.off;
-    boot_opens = λ k h. ap (is_run_at open_address) (way k h).step.did ∙ ap (λ a. a == 7) (way k h).here.pc ∙ (plain k h).1;
-    boot_commits = λ k h. ap (is_run_at commit_address) (way k h).step.did ∙ ap (λ a. a == 8) (way k h).here.pc ∙ (plain k h).2;
+    boot_opens = λ k h. (way k h).step.ran open_address ∙ ap (λ a. a == 7) (way k h).here.pc ∙ (plain k h).1;
+    boot_commits = λ k h. (way k h).step.ran commit_address ∙ ap (λ a. a == 8) (way k h).here.pc ∙ (plain k h).2;
     boot_clears = λ k h. not_cleared c.source (the_log k) ((way k h).step.unchanged c.source);
     boot_puts = λ k h. boot_puts_by k h (cases_lt k ready);
     puts_at_ready = end.puts ∙ all_put c.setup c;

@@ -1,11 +1,11 @@
 -- Each register that a counter's code writes is listed in its map.
-use Rattle.std.specs.Prelude.{ℕ, zero, suc, ◌+◌, ◌<◌, ◌≤◌, Bool, true, false, ◌&&◌, ◌||◌, ◌==◌, cond, List, Option, Some, None, IfSome}
+use Rattle.std.specs.Prelude.{ℕ, ◌<◌, true, false, ◌||◌, ◌==◌, cond, List, Option, Some, None, IfSome}
 use Rattle.std.proofs.Common.{◌≡◌, refl, sym, ap, subst, ◌∙◌, arith, lit<, lit≤}
 use Rattle.std.proofs.lemmas.Bool.{eq-eqb}
 use Rattle.pic_isa.specs.declared.sources.Source.{Source}
-use Rattle.pic_isa.specs.declared.sources.Source.TheVariants.{T0, Int, Psp, Ad, Ssp, Ccp1, Tmr2, Tmr1, Ee, Bcl, Ccp2}
+use Rattle.pic_isa.specs.declared.sources.Source.TheVariants.{T0, Int}
 use Rattle.pic_isa.specs.Sources.{flag_of, enable_of}
-use Rattle.pic_regs.specs.Map.{Reg, Absent, Port, Tris, Plain}
+use Rattle.pic_regs.specs.Map.{Reg, Port, Tris, Plain}
 use Rattle.pic_regs.proofs.SetupFacts.{Suits}
 use Rattle.pic_machine.specs.Results.{written}
 use Rattle.counter_code.specs.declared.counters.Counter.{Counter}
@@ -13,8 +13,8 @@ use Rattle.counter_code.specs.declared.counters.SetupAt.{SetupAt}
 use Rattle.counter_code.specs.Layout.{status, intcon, state_byte, port_address, in_bank_1, is_peripheral}
 use Rattle.counter_code.specs.Maps.{map_of, is_written, is_set_up, sets_up_bank_1}
 use Rattle.stack_bound.specs.MapNames.{is_listed}
-use Rattle.counter_code.proofs.Story.{Place, Rests, Clears, Loads, Adds, Opens, Commits, Returns}
-use Rattle.counter_code.proofs.Spots.{Kind, NoSetup, LowSetup, HighSetup, Spot, LoadsInit, StoresInit, LoadsSetup, StoresSetup, ChoosesHigh, EnablesHigh, ChoosesLow, Enables, TurnsOn, Jumps, At, kind_of}
+use Rattle.counter_code.proofs.Story.{Place, Clears, Opens, Commits}
+use Rattle.counter_code.proofs.Spots.{LowSetup, HighSetup, Spot, StoresInit, StoresSetup, ChoosesHigh, EnablesHigh, ChoosesLow, Enables, TurnsOn, kind_of}
 use Rattle.counter_code.proofs.BootSteps.{is_high, register_of}
 use Rattle.counter_code.proofs.Targets.{Aimed, has_setup, is_there}
 use Rattle.counter_code.proofs.PlaceSteps.{wrote_at}
@@ -68,33 +68,16 @@ target_listed None c target is_aimed there = absurd cc
 target_listed (Some s) c target is_aimed there =
     let d : Counter = record c { setup = Some s } in
     subst (λ wrote. Listed d wrote) (sym (lowest_target s.register s.address target is_aimed.1))
-        (listed d s.address (omega (arith, is_aimed.3)) (setup_written d s.address (eq-eqb s.address s.address refl)))
+    (listed d s.address (omega (arith, is_aimed.3)) (setup_written d s.address (eq-eqb s.address s.address refl)))
 
 enable_listed : (source : Source) (c : Counter) (target : Reg) → is_peripheral source ≡ true → Listed (record c { source = source }) (written (register_of (record c { source = source }) target EnablesHigh))
 enable_listed T0 c target e = absurd cc
 enable_listed Int c target e = absurd cc
-enable_listed Psp c target e = listed (record c { source = Psp }) (enable_of Psp).address (lit< tt) (enable_written (record c { source = Psp }))
-enable_listed Ad c target e = listed (record c { source = Ad }) (enable_of Ad).address (lit< tt) (enable_written (record c { source = Ad }))
-enable_listed Ssp c target e = listed (record c { source = Ssp }) (enable_of Ssp).address (lit< tt) (enable_written (record c { source = Ssp }))
-enable_listed Ccp1 c target e = listed (record c { source = Ccp1 }) (enable_of Ccp1).address (lit< tt) (enable_written (record c { source = Ccp1 }))
-enable_listed Tmr2 c target e = listed (record c { source = Tmr2 }) (enable_of Tmr2).address (lit< tt) (enable_written (record c { source = Tmr2 }))
-enable_listed Tmr1 c target e = listed (record c { source = Tmr1 }) (enable_of Tmr1).address (lit< tt) (enable_written (record c { source = Tmr1 }))
-enable_listed Ee c target e = listed (record c { source = Ee }) (enable_of Ee).address (lit< tt) (enable_written (record c { source = Ee }))
-enable_listed Bcl c target e = listed (record c { source = Bcl }) (enable_of Bcl).address (lit< tt) (enable_written (record c { source = Bcl }))
-enable_listed Ccp2 c target e = listed (record c { source = Ccp2 }) (enable_of Ccp2).address (lit< tt) (enable_written (record c { source = Ccp2 }))
+enable_listed source c target e = listed (record c { source = source }) (enable_of source).address (lit< tt) (enable_written (record c { source = source }))
 
 flag_listed : (source : Source) (c : Counter) → Listed (record c { source = source }) (wrote_at (record c { source = source }) Clears)
 flag_listed T0 c = listed (record c { source = T0 }) (flag_of T0).address (lit< tt) (flag_written (record c { source = T0 }))
-flag_listed Int c = listed (record c { source = Int }) (flag_of Int).address (lit< tt) (flag_written (record c { source = Int }))
-flag_listed Psp c = listed (record c { source = Psp }) (flag_of Psp).address (lit< tt) (flag_written (record c { source = Psp }))
-flag_listed Ad c = listed (record c { source = Ad }) (flag_of Ad).address (lit< tt) (flag_written (record c { source = Ad }))
-flag_listed Ssp c = listed (record c { source = Ssp }) (flag_of Ssp).address (lit< tt) (flag_written (record c { source = Ssp }))
-flag_listed Ccp1 c = listed (record c { source = Ccp1 }) (flag_of Ccp1).address (lit< tt) (flag_written (record c { source = Ccp1 }))
-flag_listed Tmr2 c = listed (record c { source = Tmr2 }) (flag_of Tmr2).address (lit< tt) (flag_written (record c { source = Tmr2 }))
-flag_listed Tmr1 c = listed (record c { source = Tmr1 }) (flag_of Tmr1).address (lit< tt) (flag_written (record c { source = Tmr1 }))
-flag_listed Ee c = listed (record c { source = Ee }) (flag_of Ee).address (lit< tt) (flag_written (record c { source = Ee }))
-flag_listed Bcl c = listed (record c { source = Bcl }) (flag_of Bcl).address (lit< tt) (flag_written (record c { source = Bcl }))
-flag_listed Ccp2 c = listed (record c { source = Ccp2 }) (flag_of Ccp2).address (lit< tt) (flag_written (record c { source = Ccp2 }))
+flag_listed source c = listed (record c { source = source }) (flag_of source).address (lit< tt) (flag_written (record c { source = source }))
 
 -- In the boot, and behind it.
 pub boot_listed : (c : Counter) (target : Reg) (s : Spot) → Aimed c.setup target → is_there c s ≡ true → Listed c (written (register_of c target s))

@@ -1,12 +1,14 @@
 //! Programs of the first form: what a `Counter` stands for, the code and the map that are made for it, and that
 //! they are firmware for its program.
 //!
-//! Contracts see a `Counter` as the program that it stands for. The proofs say of each run of its code, from every
-//! start and under every list of arrivals, that it keeps what firmware promises. The compiler stands on this crate.
+//! Contracts see a `Counter` as the program that it stands for. The proof that each run of its code keeps what
+//! firmware promises, in proofs/, has three parts: what each instruction of the boot and of the handler does to a chip
+//! of which only the bank, the enables, GIE and the depth are known; that so every run tells its story, in which the
+//! chip's insides are gone; and that a log that tells its story keeps the promises. The compiler stands on this crate.
 #![tactic(auto)]
 
 mod counters;
 mod laws;
 
 pub use counters::{Counter, SetupAt};
-pub use laws::one_program;
+pub use laws::{keeps_promises, one_program, settles};

@@ -1,0 +1,5 @@
+use Rattle.counter_code.proofs.AlwaysKeeps.{always_keeps}
+use Rattle.counter_code.proofs.laws.keeps_promises.Goals as goal
+
+pub returns : goal.returns
+returns c = always_keeps
