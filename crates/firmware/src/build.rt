@@ -9,8 +9,8 @@ ghost use Rattle.counter_code.specs.Maps.{map_of};
 
 use crate::bounds::limits_of;
 use crate::code::{COMMIT, OPEN, STATE, image};
-use counter_code::Counter;
 use crate::registers::written_ranges;
+use counter_code::Counter;
 use frp_tree::{List, Ty};
 use hex_file::Image;
 use map_file::{Map, MapEvent, MapState};

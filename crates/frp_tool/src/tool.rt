@@ -8,8 +8,8 @@ ghost use Rattle.frp_tool.specs.Steps.{Ends, Stores, StoresMap};
 
 use crate::requests::request;
 use crate::source::program;
-use edge_io::{Files, PutFault, ReadFault, Sink, WriteFault};
 use counter_code::Counter;
+use edge_io::{Files, PutFault, ReadFault, Sink, WriteFault};
 use firmware::{Limits, limits_of};
 use frp_tree::{List as Bytes, Text};
 use map_file::Map;
