@@ -5,7 +5,7 @@ use Rattle.std.proofs.lemmas.Bool.{or_left, or_right}
 use Rattle.pic_isa.specs.Names.{name_of_port, port_at, register_at}
 use Rattle.pic_isa.proofs.UniqueNames.{port_called_back}
 use Rattle.pic_regs.specs.Map.{canonical}
-use Rattle.pic_regs.proofs.SetupFacts.{register_is_lowest}
+use Rattle.pic_regs.proofs.SetupRegisters.{register_is_lowest}
 use Rattle.stack_bound.specs.Firmware.{ListsRightly, is_at, is_control, is_general, is_port_at, may_be_written}
 use Rattle.counter_code.specs.declared.counters.Counter.{Counter}
 use Rattle.counter_code.specs.declared.counters.SetupAt.{SetupAt}

@@ -1,5 +1,6 @@
 -- What each place behind the boot does to a chip of which only the bank, the enables, GIE and the depth are known.
-use Rattle.std.specs.Prelude.{ℕ, zero, suc, ◌+◌, ◌%◌, ◌<◌, Bool, true, false, ◌||◌, ◌==◌, Option, None}
+use Rattle.std.specs.Prelude.{ℕ, zero, suc, ◌+◌, ◌%◌, ◌<◌, Bool, true, false, ◌==◌, Option, None}
+use Rattle.std.proofs.Math.Bool.{or-false}
 use Rattle.std.proofs.Common.{◌≡◌, refl, arith}
 use Rattle.pic_isa.specs.declared.sources.Source.{Source}
 use Rattle.pic_isa.specs.declared.sources.Source.TheVariants.{T0, Int, Ee, Bcl, Ccp2}
@@ -140,13 +141,9 @@ pub takes : (c : Counter) (x : Chip) (arrivals : Sources) → Takes c (held c Re
 takes c x arrivals = takes_at c.source c x arrivals
 
 -- Where control rests the flag requests, and nothing does in the handler.
-or_false : (b : Bool) → (b || false) ≡ b
-or_false true = refl
-or_false false = refl
-
 request_of : (source : Source) (c : Counter) (x : Chip) (arrivals : Sources) → requested (arrived arrivals (held (record c { source = source }) Rests x).regs) ≡ flag source (arrived arrivals (held (record c { source = source }) Rests x).regs)
 request_of Ccp2 c x arrivals = refl
-request_of _ c x arrivals = simp or_false
+request_of _ c x arrivals = simp or-false
 
 pub request : (c : Counter) (x : Chip) (arrivals : Sources) → requested (arrived arrivals (held c Rests x).regs) ≡ flag c.source (arrived arrivals (held c Rests x).regs)
 request c x arrivals = request_of c.source c x arrivals

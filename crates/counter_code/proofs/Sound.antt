@@ -9,7 +9,7 @@ use Rattle.pic_regs.specs.Bytes.{num, bits}
 use Rattle.pic_regs.specs.Map.{Reg, Port, Tris, Plain, within, existing, reg_at}
 use Rattle.pic_regs.specs.Registers.{Registers, read}
 use Rattle.pic_regs.specs.Arrivals.{Sources}
-use Rattle.pic_regs.proofs.SetupFacts.{Suits}
+use Rattle.pic_regs.proofs.SetupRegisters.{Suits}
 use Rattle.pic_machine.specs.Chip.{Chip}
 use Rattle.pic_machine.specs.Run.{Log, program_of, power_on, arrivals_of}
 use Rattle.counter_code.specs.declared.counters.Counter.{Counter}

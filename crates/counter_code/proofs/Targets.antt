@@ -14,7 +14,7 @@ use Rattle.pic_regs.specs.Registers.{Registers}
 use Rattle.pic_regs.specs.Arrivals.{Sources, arrived}
 use Rattle.pic_regs.specs.Start.{ram_place}
 use Rattle.pic_regs.proofs.ByteFacts.{num-bits}
-use Rattle.pic_regs.proofs.SetupFacts.{Suits, may_set_up}
+use Rattle.pic_regs.proofs.SetupRegisters.{Suits, may_set_up}
 use Rattle.pic_machine.specs.Chip.{Chip, through}
 use Rattle.pic_machine.specs.Results.{shown}
 use Rattle.pic_machine.specs.Exec.{field, operand}

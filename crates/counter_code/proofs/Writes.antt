@@ -1,12 +1,12 @@
 -- Each register that a counter's code writes is listed in its map.
 use Rattle.std.specs.Prelude.{ℕ, ◌<◌, true, false, ◌||◌, ◌==◌, cond, List, Option, Some, None, IfSome}
 use Rattle.std.proofs.Common.{◌≡◌, refl, sym, ap, subst, ◌∙◌, arith, lit<, lit≤}
-use Rattle.std.proofs.lemmas.Bool.{eq-eqb}
+use Rattle.std.proofs.lemmas.Bool.{or_left, or_right, eq-eqb}
 use Rattle.pic_isa.specs.declared.sources.Source.{Source}
 use Rattle.pic_isa.specs.declared.sources.Source.TheVariants.{T0, Int}
 use Rattle.pic_isa.specs.Sources.{flag_of, enable_of}
 use Rattle.pic_regs.specs.Map.{Reg, Port, Tris, Plain}
-use Rattle.pic_regs.proofs.SetupFacts.{Suits}
+use Rattle.pic_regs.proofs.SetupRegisters.{Suits}
 use Rattle.pic_machine.specs.Results.{written}
 use Rattle.counter_code.specs.declared.counters.Counter.{Counter}
 use Rattle.counter_code.specs.declared.counters.SetupAt.{SetupAt}
@@ -18,7 +18,7 @@ use Rattle.counter_code.proofs.Spots.{LowSetup, HighSetup, Spot, StoresInit, Sto
 use Rattle.counter_code.proofs.BootSteps.{is_high, register_of}
 use Rattle.counter_code.proofs.Targets.{Aimed, has_setup, is_there}
 use Rattle.counter_code.proofs.PlaceSteps.{wrote_at}
-use Rattle.counter_code.proofs.Listed.{either_true, first_true, has_each}
+use Rattle.counter_code.proofs.Listed.{has_each}
 
 -- The map lists an address that the code writes.
 abbrev pub Listed : Counter → Option ℕ → Type 0
@@ -31,24 +31,24 @@ listed c a small e = has_each 512 (is_written c) a (lit≤ tt) small e
 port_written : (c : Counter) → is_written c (port_address c.port) ≡ true
 port_written c =
     let a : ℕ = port_address c.port in
-    first_true _ _ (first_true _ _ (first_true _ _ (first_true _ _ (either_true (a == state_byte || a == intcon) (a == port_address c.port) (eq-eqb a a refl)))))
+    or_left _ _ (or_left _ _ (or_left _ _ (or_left _ _ (or_right (a == state_byte || a == intcon) (a == port_address c.port) (eq-eqb a a refl)))))
 
 flag_written : (c : Counter) → is_written c (flag_of c.source).address ≡ true
 flag_written c =
     let a : ℕ = (flag_of c.source).address in
-    first_true _ _ (first_true _ _ (first_true _ _ (either_true (a == state_byte || a == intcon || a == port_address c.port) (a == (flag_of c.source).address) (eq-eqb a a refl))))
+    or_left _ _ (or_left _ _ (or_left _ _ (or_right (a == state_byte || a == intcon || a == port_address c.port) (a == (flag_of c.source).address) (eq-eqb a a refl))))
 
 enable_written : (c : Counter) → is_written c (enable_of c.source).address ≡ true
 enable_written c =
     let a : ℕ = (enable_of c.source).address in
-    first_true _ _ (first_true _ _ (either_true (a == state_byte || a == intcon || a == port_address c.port || a == (flag_of c.source).address) (a == (enable_of c.source).address) (eq-eqb a a refl)))
+    or_left _ _ (or_left _ _ (or_right (a == state_byte || a == intcon || a == port_address c.port || a == (flag_of c.source).address) (a == (enable_of c.source).address) (eq-eqb a a refl)))
 
 setup_written : (c : Counter) (a : ℕ) → is_set_up c.setup a ≡ true → is_written c a ≡ true
 setup_written c a e =
-    first_true _ _ (either_true (a == state_byte || a == intcon || a == port_address c.port || a == (flag_of c.source).address || a == (enable_of c.source).address) (is_set_up c.setup a) e)
+    or_left _ _ (or_right (a == state_byte || a == intcon || a == port_address c.port || a == (flag_of c.source).address || a == (enable_of c.source).address) (is_set_up c.setup a) e)
 
 status_written : (c : Counter) → (is_peripheral c.source || sets_up_bank_1 c.setup) ≡ true → is_written c status ≡ true
-status_written c e = either_true (status == port_address c.port || status == (flag_of c.source).address || status == (enable_of c.source).address || is_set_up c.setup status) _ e
+status_written c e = or_right (status == port_address c.port || status == (flag_of c.source).address || status == (enable_of c.source).address || is_set_up c.setup status) _ e
 
 high_is_bank_1 : (setup : Option SetupAt) → is_high (kind_of setup) ≡ sets_up_bank_1 setup
 high_is_bank_1 None = refl

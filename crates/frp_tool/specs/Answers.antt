@@ -36,8 +36,8 @@ abbrev pub request_of : List (List ℕ) → Option Request
 request_of (name ∷ a ∷ b ∷ c ∷ []) = where_compile (command_of (name ∷ a ∷ b ∷ c ∷ [])) (record { source = a; hex = b; map = c })
 request_of _ = None
 
--- What `compile` makes of the program that a counter stands for: the bytes of HEX, and a map, whose text are those of MAP.
--- They are firmware for the program.
+-- What `compile` makes of the program that a counter stands for: the bytes of HEX, and a map, whose text is written to MAP.
+-- The bytes and the text are firmware for the program.
 pub record Firmware : Type 0 where
   pub counter : Counter
   pub hex : List ℕ

@@ -41,8 +41,8 @@ FilesKept request before after status =
     (0 < status → status < 5 → KeepsFiles before.files after.files)
     × ((r : Request) → request ≡ Some r → BothTold before.files after.files (OthersAsBefore r))
 
--- With 0 the source spells a program of the first form; HEX holds the written form of its image and MAP the text of its
--- map; all other files are as before; and the summary was put.
+-- With 0 the source spells a program of the first form; HEX and MAP hold bytes that are firmware for it, those of MAP being
+-- the text of a map; all other files are as before; and the summary of that map was put.
 abbrev pub DoneMeans : Option Request → Outside → Outside → ℕ → Type 0
 DoneMeans request before after status = status ≡ 0 → (r : Request) × (request ≡ Some r) × (c : Counter) × SourceSpells r before c
     × (hex : List ℕ) × (m : Map) × IsFirmware (program_of c) hex (map_text m)

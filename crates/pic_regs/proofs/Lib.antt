@@ -7,4 +7,4 @@ pub mod PowerFacts
 pub mod RamFacts
 pub mod RegisterExamples
 pub mod SetFacts
-pub mod SetupFacts
+pub mod SetupRegisters

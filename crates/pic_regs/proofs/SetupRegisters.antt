@@ -3,7 +3,7 @@ use Rattle.std.specs.Prelude.{ℕ, ◌+◌, ◌<◌, Bool, true, false, not, ◌
 use Rattle.std.proofs.Common.{◌≡◌, refl, ap}
 use Rattle.std.specs.Map.{lookup}
 use Rattle.std.specs.Str.{bytes_eq}
-use Rattle.std.proofs.lemmas.Bool.{eqb-true, ltb-true}
+use Rattle.std.proofs.lemmas.Bool.{and_parts, eqb-true, ltb-true}
 use Rattle.std.proofs.lemmas.Slice.Eq.{bytes_eq-Decides}
 use Rattle.pic_isa.specs.Names.{setup_registers, register_at, port_at}
 use Rattle.pic_isa.proofs.NameFacts.{register_all}
@@ -39,10 +39,6 @@ all_suit (entry ∷ table) = suits entry.0 entry.1 (reg_at entry.1) && all_suit 
 setups_suit : all_suit setup_registers ≡ true
 setups_suit = refl
 
-both : (x y : Bool) → (x && y) ≡ true → (x ≡ true) × (y ≡ true)
-both true y e = (refl, e)
-both false y e = (e, cc)
-
 its_some : (n : ℕ) (o : Option ℕ) → is_some n o ≡ true → o ≡ Some n
 its_some n (Some m) e = ap (λ (k : ℕ). Some k) (eqb-true m n e)
 its_some n None e = absurd cc
@@ -57,19 +53,19 @@ is_false false e = refl
 
 suits-true : (name : List ℕ) (a : ℕ) (reg : Reg) → suits name a reg ≡ true → Suits name a reg
 suits-true name a (Port n) e =
-    let first = both (is_some n (port_at name)) (within 5 9 a && (5 + n == a && nat_lt n 5)) e in
-    let second = both (within 5 9 a) (5 + n == a && nat_lt n 5) first.1 in
-    let third = both (5 + n == a) (nat_lt n 5) second.1 in
+    let first = and_parts (is_some n (port_at name)) (within 5 9 a && (5 + n == a && nat_lt n 5)) e in
+    let second = and_parts (within 5 9 a) (5 + n == a && nat_lt n 5) first.1 in
+    let third = and_parts (5 + n == a) (nat_lt n 5) second.1 in
     (its_some n (port_at name) first.0, second.0, eqb-true (5 + n) a third.0, ltb-true n 5 third.1)
 suits-true name a (Tris n) e =
-    let first = both (is_none (port_at name)) (not (within 5 9 a) && (0x085 + n == a && nat_lt n 5)) e in
-    let second = both (not (within 5 9 a)) (0x085 + n == a && nat_lt n 5) first.1 in
-    let third = both (0x085 + n == a) (nat_lt n 5) second.1 in
+    let first = and_parts (is_none (port_at name)) (not (within 5 9 a) && (0x085 + n == a && nat_lt n 5)) e in
+    let second = and_parts (not (within 5 9 a)) (0x085 + n == a && nat_lt n 5) first.1 in
+    let third = and_parts (0x085 + n == a) (nat_lt n 5) second.1 in
     (its_none (port_at name) first.0, is_false (within 5 9 a) second.0, eqb-true (0x085 + n) a third.0, ltb-true n 5 third.1)
 suits-true name a (Plain b) e =
-    let first = both (is_none (port_at name)) (not (within 5 9 a) && (b == a && is_none (ram_place a))) e in
-    let second = both (not (within 5 9 a)) (b == a && is_none (ram_place a)) first.1 in
-    let third = both (b == a) (is_none (ram_place a)) second.1 in
+    let first = and_parts (is_none (port_at name)) (not (within 5 9 a) && (b == a && is_none (ram_place a))) e in
+    let second = and_parts (not (within 5 9 a)) (b == a && is_none (ram_place a)) first.1 in
+    let third = and_parts (b == a) (is_none (ram_place a)) second.1 in
     (its_none (port_at name) first.0, is_false (within 5 9 a) second.0, eqb-true b a third.0, its_none (ram_place a) third.1)
 suits-true name a _ e = absurd cc
 
@@ -85,7 +81,7 @@ here_or_later name key value a later false e here rest found = rest found
 finds : (name : List ℕ) (table : List (List ℕ × ℕ)) (a : ℕ) → all_suit table ≡ true → lookup (bytes_eq name) table ≡ Some a → suits name a (reg_at a) ≡ true
 finds name [] a all found = absurd (let e : ◌≡◌ {A = Option ℕ} None (Some a) = found in cc)
 finds name (entry ∷ table) a all found =
-    let parts = both (suits entry.0 entry.1 (reg_at entry.1)) (all_suit table) all in
+    let parts = and_parts (suits entry.0 entry.1 (reg_at entry.1)) (all_suit table) all in
     here_or_later name entry.0 entry.1 a (lookup (bytes_eq name) table) (bytes_eq name entry.0) refl parts.0 (λ e. finds name table a parts.1 e) found
 
 -- A register that may be set up suits its name and its address.
