@@ -1,6 +1,7 @@
 pub mod ByteFacts
 pub mod CheckFacts
 mod Examples
+mod FaultExamples
 mod GivenBytes
 mod ImageExamples
 pub mod ImageFacts

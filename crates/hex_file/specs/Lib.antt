@@ -1,3 +1,4 @@
+pub mod Faults
 pub mod ImageOf
 pub mod Kinds
 pub mod Written

@@ -4,9 +4,11 @@
 //! written form of an image. The simulator, the compiler and the firmware's promises stand on it.
 #![tactic(auto)]
 
+mod faults;
 mod images;
 mod records;
 mod writer;
 
+pub use faults::HexFault;
 pub use images::{Aside, Image, Word};
 pub use writer::write;
