@@ -2,11 +2,17 @@ pub mod ByteFacts
 pub mod CheckFacts
 mod Examples
 mod FaultExamples
+pub mod FaultFacts
 mod GivenBytes
+pub mod GivenFacts
 mod ImageExamples
 pub mod ImageFacts
 pub mod ImageMade
 pub mod LineFacts
 mod MixedExample
 pub mod Rises
+pub mod LinesFacts
+pub mod RecordFacts
 pub mod RunFacts
+pub mod TableFacts
+pub mod TextFacts

@@ -20,24 +20,23 @@ bytes_of line = spelled_bytes (drop 1 line)
 
 -- The number of data bytes that a line's first byte tells.
 abbrev pub told_length : List ℕ → ℕ
-told_length line = slice_index (bytes_of line) 0
+told_length bytes = slice_index bytes 0
 
--- The record of a line, whose bytes are as many as it tells.
+-- The record of a line's bytes, which are as many as the first tells.
 abbrev pub record_in : List ℕ → HexRecord
-record_in line =
-    let bytes = bytes_of line in
+record_in bytes =
     record {
       address = 256 * slice_index bytes 1 + slice_index bytes 2;
       kind = slice_index bytes 3;
-      payload = take (told_length line) (drop 4 bytes);
+      payload = take (told_length bytes) (drop 4 bytes);
     }
 
--- The check byte that a line has, and the right one.
+-- The check byte that a line's bytes have, and the right one.
 abbrev pub got_sum : List ℕ → ℕ
-got_sum line = slice_index (bytes_of line) (told_length line + 4)
+got_sum bytes = slice_index bytes (told_length bytes + 4)
 
 abbrev pub want_sum : List ℕ → ℕ
-want_sum line = check_byte (take (told_length line + 4) (bytes_of line))
+want_sum bytes = check_byte (take (told_length bytes + 4) bytes)
 
 -- A record of the lines before is an end record.
 abbrev pub has_end : List HexRecord → Bool
@@ -50,10 +49,10 @@ has_bad_char line = not (slice_index line 0 == 58) || not (list_all is_hex_digit
 -- The digits are odd in number, or spell fewer than five bytes or another number than is told.
 abbrev pub has_bad_length : List ℕ → Bool
 has_bad_length line =
-    let count = length (bytes_of line) in length (drop 1 line) % 2 == 1 || nat_lt count 5 || not (count == told_length line + 5)
+    let bytes = bytes_of line in length (drop 1 line) % 2 == 1 || nat_lt (length bytes) 5 || not (length bytes == told_length bytes + 5)
 
 abbrev pub has_bad_sum : List ℕ → Bool
-has_bad_sum line = not (got_sum line == want_sum line)
+has_bad_sum bytes = not (got_sum bytes == want_sum bytes)
 
 abbrev pub has_bad_type : HexRecord → Bool
 has_bad_type r = nat_lt 5 r.kind
@@ -95,11 +94,12 @@ clash_at records r = if r.kind == 0 then other_at records r.address r.payload el
 -- of the first test that holds.
 abbrev pub line_fault : List HexRecord → ℕ → List ℕ → Option HexFault
 line_fault records number line =
-    let r = record_in line in
+    let bytes = bytes_of line in
+    let r = record_in bytes in
     if has_end records then Some (AfterEnd number)
     else if has_bad_char line then Some (BadChar number)
     else if has_bad_length line then Some (BadLength number)
-    else if has_bad_sum line then Some (BadSum number (got_sum line) (want_sum line))
+    else if has_bad_sum bytes then Some (BadSum number (got_sum bytes) (want_sum bytes))
     else if has_bad_type r then Some (BadType number r.kind)
     else if has_bad_payload r then Some (BadLength number)
     else if is_out_of_range r then Some (OutOfRange number)

@@ -6,9 +6,14 @@
 
 mod faults;
 mod images;
+mod parsed;
+mod reader;
 mod records;
+mod tables;
+mod texts;
 mod writer;
 
 pub use faults::HexFault;
 pub use images::{Aside, Image, Word};
+pub use reader::read;
 pub use writer::write;
