@@ -1,8 +1,10 @@
+pub mod AgreeFacts
 pub mod ByteFacts
 pub mod CheckFacts
 mod Examples
 mod FaultExamples
 pub mod FaultFacts
+pub mod FrontFacts
 mod GivenBytes
 pub mod GivenFacts
 mod ImageExamples
