@@ -18,3 +18,4 @@ pub mod RecordFacts
 pub mod RunFacts
 pub mod TableFacts
 pub mod TextFacts
+pub mod UniqueFacts
