@@ -8,10 +8,7 @@ use Rattle.std.specs.Option.{option_or}
 use Rattle.hex_file.specs.Faults.{byte_of, byte_given, is_other, other_at, clash_at}
 use Rattle.hex_file.specs.ImageOf.{HexRecord, GivesByte, Agree}
 use Rattle.hex_file.proofs.ImageFacts.{held, holds_none, holds_first, holds_later}
-
-some_or_none : (o : Option ℕ) → ((x : ℕ) × (o ≡ Some x)) ⊎ (o ≡ None)
-some_or_none None = inr refl
-some_or_none (Some x) = inl (x, refl)
+use Rattle.hex_file.proofs.TableFacts.{some_or_none}
 
 -- One record.
 

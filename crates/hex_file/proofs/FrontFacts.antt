@@ -58,7 +58,7 @@ zip_more (l ∷ texts) (s ∷ records) line r zipped is = (zipped.0, zip_more te
 
 -- One line more.
 
-init_of_more : (records : List HexRecord) (r : HexRecord) → take (length (records ++ r ∷ []) - 1) (records ++ r ∷ []) ≡ records
+pub init_of_more : (records : List HexRecord) (r : HexRecord) → take (length (records ++ r ∷ []) - 1) (records ++ r ∷ []) ≡ records
 init_of_more records r =
     ap (λ n. take n (records ++ r ∷ [])) (let e : length (records ++ r ∷ []) - 1 ≡ length records = omega (arith, length-append records (r ∷ [])) in e)
     ∙ take-append_seam records (r ∷ [])

@@ -18,12 +18,12 @@ byte_of_data start payload address low = cond-true _ _ _ (le-leb start address l
 byte_of_below : (start : ℕ) (payload : List ℕ) (address : ℕ) → address < start → byte_of (bytes_from start payload) address ≡ None
 byte_of_below start payload address low = cond-false _ _ _ (lt-leb start address low)
 
-pub byte_of_other : (r : HexRecord) (address : ℕ) → r.kind ≢ 1 → r.kind ≢ 0 → byte_of r address ≡ None
-byte_of_other r address not_end not_data = cond-false _ _ _ (and_left _ _ (ne_eqb r.kind 0 not_data))
+pub byte_of_other : (r : HexRecord) (address : ℕ) → r.kind ≢ 0 → byte_of r address ≡ None
+byte_of_other r address not_data = cond-false _ _ _ (and_left _ _ (ne_eqb r.kind 0 not_data))
 
 -- What the records before a last one give, and that.
 
-or_none : (o : Option ℕ) → option_or o None ≡ o
+pub or_none : (o : Option ℕ) → option_or o None ≡ o
 or_none None = refl
 or_none (Some x) = refl
 
@@ -174,7 +174,7 @@ agrees_whole records r count table e all part =
     clash_of_data records r e ∙ sym part.others ∙ ap (other_at records (r.address + count)) (drop_all count r.payload all)
 
 pub given_other : (records : List HexRecord) (r : HexRecord) (table : List (Option ℕ)) → r.kind ≢ 0 → IsTable records table → IsTable (records ++ r ∷ []) table
-given_other records r table e is = same_with_none records r table (λ address. cond-false _ _ _ (and_left _ _ (ne_eqb r.kind 0 e))) is
+given_other records r table e is = same_with_none records r table (λ address. byte_of_other r address e) is
 
 pub clash_whole : (records : List HexRecord) (r : HexRecord) (count : ℕ) (table : List (Option ℕ)) (byte : ℕ) → r.kind ≡ 0
     → IsPart records r.address r.payload count table → count < length r.payload → r.address + count < 0x10000 → byte ≡ slice_index r.payload count

@@ -17,5 +17,6 @@ pub mod LinesFacts
 pub mod RecordFacts
 pub mod RunFacts
 pub mod TableFacts
+pub mod TableImage
 pub mod TextFacts
 pub mod UniqueFacts

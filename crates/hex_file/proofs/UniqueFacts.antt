@@ -2,7 +2,7 @@
 use Rattle.std.proofs.Common.{◌≡◌, ◌≢◌, ℕ, zero, suc, ◌+◌, ◌-◌, ◌<◌, ◌≤◌, ◌⊎◌, inl, inr, ⊎_elim, Bool, true, false, ◌==◌, nat_lt, List, [], ◌∷◌, ◌++◌, length, take, drop, Option, None, Some, option_map, refl, sym, ◌∙◌, ap, subst, append_assoc, append-nil, length-append, slice_index_or, arith}
 use Rattle.std.proofs.lemmas.Bool.{both_ways, eq-eqb}
 use Rattle.std.proofs.lemmas.Option.{same_Some}
-use Rattle.std.proofs.lemmas.List.{get_or-take, get_or-append_left, length-take-le}
+use Rattle.std.proofs.lemmas.List.{get_or-take, get_or_append_left, length-take-le}
 use Rattle.std.proofs.lemmas.List.Elements.{filter-append}
 use Rattle.std.specs.List.{All, AllZip}
 use Rattle.std.specs.Str.Lines.{lines}
@@ -56,7 +56,7 @@ before_last before r after once k d below =
     let most : ℕ = length all - 1 in
     let many : length all ≡ length before + suc (length after) = length-append before (r ∷ after) in
     let taken : length (take most all) ≡ most = length-take-le most all (omega arith) in
-    let same : slice_index_or (take most all) k d ≡ slice_index_or before k d = get_or-take most all k d (omega arith) ∙ get_or-append_left before (r ∷ after) k d below in
+    let same : slice_index_or (take most all) k d ≡ slice_index_or before k d = get_or-take most all k d (omega arith) ∙ get_or_append_left before (r ∷ after) d k below in
     subst (λ (s : HexRecord). s.kind ≢ 1) same (once k d (omega arith))
 
 -- A line before the end of lines without a fault has none.
