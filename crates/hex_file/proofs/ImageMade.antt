@@ -75,7 +75,7 @@ record Made {X : Type 0} (key value : X → ℕ) (P : ℕ → ℕ → Type 0) (f
   complete : (x : X) → from ≤ key x → key x < from + count → P (key x) (value x) → Contains items x
   rising : IsStrictlyIncreasing (map key items)
 
-rising_from : {X : Type 0} (key : X → ℕ) (x : X) (xs : List X) → ((y : X) → Contains xs y → key x < key y) → IsStrictlyIncreasing (map key xs)
+pub rising_from : {X : Type 0} (key : X → ℕ) (x : X) (xs : List X) → ((y : X) → Contains xs y → key x < key y) → IsStrictlyIncreasing (map key xs)
     → IsStrictlyIncreasing (map key (x ∷ xs))
 rising_from key x [] above rising k below = absurd (omega arith)
 rising_from key x (y ∷ ys) above rising zero below = above y (holds_first y ys)

@@ -14,7 +14,7 @@ use Rattle.hex_file.specs.Faults.{spelled_bytes, bytes_of, told_length, record_i
 use Rattle.hex_file.specs.ImageOf.{HexRecord, record_bytes, IsAllowed, IsRecordLine}
 use Rattle.hex_file.specs.Written.{check_byte}
 use Rattle.hex_file.proofs.CheckFacts.{check_byte_unique, sum_with_check_byte}
-use Rattle.hex_file.proofs.TextFacts.{Spells, spells, Written, written}
+use Rattle.hex_file.proofs.DigitFacts.{Spells, spells, Written, written}
 
 -- The bytes of a line.
 

@@ -52,11 +52,11 @@ eights-append w (a ∷ b ∷ c ∷ d ∷ e ∷ f ∷ g ∷ h ∷ ws) rest seven 
 -- runs
 
 -- A word joins the run that begins at the next address.
-before_runs_next : (w v : Word) (vs : List Word) (runs : List (List Word)) → v.address ≡ w.address + 1
+pub before_runs_next : (w v : Word) (vs : List Word) (runs : List (List Word)) → v.address ≡ w.address + 1
     → before_runs w ((v ∷ vs) ∷ runs) ≡ (w ∷ v ∷ vs) ∷ runs
 before_runs_next w v vs runs next = rw (eq-eqb v.address (w.address + 1) next)
 
-before_runs_apart : (w v : Word) (vs : List Word) (runs : List (List Word)) → v.address ≢ w.address + 1
+pub before_runs_apart : (w v : Word) (vs : List Word) (runs : List (List Word)) → v.address ≢ w.address + 1
     → before_runs w ((v ∷ vs) ∷ runs) ≡ (w ∷ []) ∷ (v ∷ vs) ∷ runs
 before_runs_apart w v vs runs apart = rw (ne_eqb v.address (w.address + 1) apart)
 

@@ -6,6 +6,7 @@
 
 mod faults;
 mod images;
+mod laws;
 mod parsed;
 mod reader;
 mod records;
@@ -15,5 +16,6 @@ mod writer;
 
 pub use faults::HexFault;
 pub use images::{Aside, Image, Word};
+pub use laws::{faulty_has_no_image, written_is_read};
 pub use reader::read;
 pub use writer::write;

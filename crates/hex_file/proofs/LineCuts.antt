@@ -5,33 +5,16 @@ use Rattle.std.proofs.lemmas.Option.{same_Some}
 use Rattle.std.proofs.lemmas.List.Sums.{fails_before_first}
 use Rattle.std.proofs.lemmas.List.Splits.{slice_split_first, slice_split_none}
 use Rattle.std.specs.List.{All, slice_split, onto_first, position_or_len, before_first, after_first}
+use Rattle.hex_file.proofs.TextLines.{HasParts, has_parts}
 use Rattle.std.specs.Str.Lines.{lines, lines_of_parts, strip_carriage_return}
 
 abbrev is_newline : ℕ → Bool
 is_newline byte = byte == 10
 
-record SomePart {X : Type 0} (parts : List (List X)) : Type 0 where
-  part : List X
-  more : List (List X)
-  is : parts ≡ part ∷ more
-
-one_of_two : {X : Type 0} (test : Bool) (a b : List (List X)) → SomePart a → SomePart b → SomePart (cond test a b)
-one_of_two true a b some other = some
-one_of_two false a b some other = other
-
-onto_first_more : {X : Type 0} (x : X) (parts : List (List X)) → SomePart (onto_first x parts)
-onto_first_more x [] = record { part = x ∷ []; more = []; is = refl }
-onto_first_more x (part ∷ parts) = record { part = x ∷ part; more = parts; is = refl }
-
-some_part : {X : Type 0} (p : X → Bool) (xs : List X) → SomePart (slice_split p xs)
-some_part p [] = record { part = []; more = []; is = refl }
-some_part p (x ∷ xs) = one_of_two (p x) ([] ∷ slice_split p xs) (onto_first x (slice_split p xs))
-    (record { part = []; more = slice_split p xs; is = refl }) (onto_first_more x (slice_split p xs))
-
 -- A part before others is a line that ends in a newline.
 before_others : (first : List ℕ) (bytes : List ℕ) → lines_of_parts (first ∷ slice_split is_newline bytes) ≡ strip_carriage_return first ∷ lines bytes
 before_others first bytes =
-    let some = some_part is_newline bytes in
+    let some : HasParts (slice_split is_newline bytes) = has_parts bytes in
     ap (λ parts. lines_of_parts (first ∷ parts)) some.is ∙ ap (λ parts. strip_carriage_return first ∷ lines_of_parts parts) (sym some.is)
 
 position_some : {X : Type 0} (p : X → Bool) (xs : List X) (place : ℕ) → position p xs ≡ Some place → (position_or_len p xs < length xs) × (place ≡ position_or_len p xs)
