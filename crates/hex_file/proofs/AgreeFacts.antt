@@ -125,7 +125,7 @@ agree_more records r agreed none address first second a b =
     let by_a : P a.source first = given_by (records ++ r ∷ []) address first a in
     let by_b : P b.source second = given_by (records ++ r ∷ []) address second b in
     let of_records : (s : HexRecord) (byte : ℕ) → Contains records s → P s byte → byte_given records address ≡ Some byte =
-        λ s byte among is. given_of_gives records address byte agreed (gives records s address byte among is) in
+    λ s byte among is. given_of_gives records address byte agreed (gives records s address byte among is) in
     ⊎_elim
     (λ a_before. ⊎_elim
     (λ b_before. agreed address first second (gives records a.source address first a_before by_a) (gives records b.source address second b_before by_b))

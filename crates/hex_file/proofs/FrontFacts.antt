@@ -75,7 +75,7 @@ pub faultless_empty : (texts : List (List ℕ)) (records : List HexRecord) (line
 faultless_empty texts records line is none = record {
   spelled =
       let same : filled (texts ++ line ∷ []) ≡ filled texts =
-          filter-append (λ line. nat_lt 0 (length line)) texts (line ∷ []) ∙ ap (λ more. filled texts ++ more) (filled_none line none) ∙ append-nil (filled texts) in
+      filter-append (λ line. nat_lt 0 (length line)) texts (line ∷ []) ∙ ap (λ more. filled texts ++ more) (filled_none line none) ∙ append-nil (filled texts) in
       subst (λ texts. AllZip IsRecordLine texts records) (sym same) is.spelled;
   agreed = is.agreed;
   once = is.once;
@@ -86,7 +86,7 @@ pub faultless_more : (texts : List (List ℕ)) (records : List HexRecord) (line 
 faultless_more texts records line r is unended some spelled agrees = record {
   spelled =
       let one_more : filled (texts ++ line ∷ []) ≡ filled texts ++ line ∷ [] =
-          filter-append (λ line. nat_lt 0 (length line)) texts (line ∷ []) ∙ ap (λ more. filled texts ++ more) (filled_one line some) in
+      filter-append (λ line. nat_lt 0 (length line)) texts (line ∷ []) ∙ ap (λ more. filled texts ++ more) (filled_one line some) in
       subst (λ texts. AllZip IsRecordLine texts (records ++ r ∷ [])) (sym one_more) (zip_more (filled texts) records line r is.spelled spelled);
   agreed = agree_more records r is.agreed agrees;
   once = subst (All (λ r. r.kind ≢ 1)) (sym (init_of_more records r)) (none_ends records unended);

@@ -84,7 +84,7 @@ module _ (records : List HexRecord) (start : ℕ) (payload : List ℕ) (count : 
   pub next_given : slice_index_or table (start + count) None ≡ byte_given records (start + count)
   next_given =
       let none : byte_of (bytes_from start (take count payload)) (start + count) ≡ None =
-          byte_of_data start (take count payload) (start + count) (omega arith) ∙ ap (slice_get (take count payload)) (omega arith) ∙ take_before payload count in
+      byte_of_data start (take count payload) (start + count) (omega arith) ∙ ap (slice_get (take count payload)) (omega arith) ∙ take_before payload count in
       part.given.at (start + count) below ∙ given_more records (bytes_from start (take count payload)) (start + count)
       ∙ ap (option_or (byte_given records (start + count))) none ∙ or_none (byte_given records (start + count))
 
@@ -120,10 +120,10 @@ module _ (records : List HexRecord) (start : ℕ) (payload : List ℕ) (count : 
       here address e =
           let within : start + count < length table = omega (arith, part.given.size) in
           let byte_is : byte_of (bytes_from start (take (count + 1) payload)) (start + count) ≡ Some byte =
-              byte_of_data start (take (count + 1) payload) (start + count) (omega arith)
-              ∙ ap (slice_get (take (count + 1) payload)) (let e : start + count - start ≡ count = omega arith in e)
-              ∙ ap (λ k. slice_get (take k payload) count) (let e : count + 1 ≡ suc count = omega arith in e)
-              ∙ take_at payload count inside ∙ ap Some (sym is) in
+          byte_of_data start (take (count + 1) payload) (start + count) (omega arith)
+          ∙ ap (slice_get (take (count + 1) payload)) (let e : start + count - start ≡ count = omega arith in e)
+          ∙ ap (λ k. slice_get (take k payload) count) (let e : count + 1 ≡ suc count = omega arith in e)
+          ∙ take_at payload count inside ∙ ap Some (sym is) in
           ap (λ k. slice_index_or (slice_set table (start + count) (Some byte)) k None) e
           ∙ get_or-set_same table (start + count) (Some byte) None within
           ∙ sym (given_more records (bytes_from start (take (count + 1) payload)) (start + count)

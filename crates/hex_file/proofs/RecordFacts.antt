@@ -113,7 +113,7 @@ line_of_record line r chars lens right is known payload range =
     let text : HasText line = text_good line chars lens in
     let digits : Written (drop 1 line) = written (drop 1 line) text.hex text.even in
     let whole : record_bytes r (got_sum (bytes_of line)) ≡ bytes_of line =
-        ap (λ r. record_bytes r (got_sum (bytes_of line))) is ∙ bytes_whole (bytes_of line) text.count digits.bytes in
+    ap (λ r. record_bytes r (got_sum (bytes_of line))) is ∙ bytes_whole (bytes_of line) text.count digits.bytes in
     record {
       check = got_sum (bytes_of line);
       spelled = ap (map to_ascii_uppercase) text.is ∙ ap (λ ds. 58 ∷ ds) digits.written ∙ ap (λ bytes. 58 ∷ flat_map hex2 bytes) (sym whole);
@@ -220,7 +220,7 @@ passes_tests line r is =
     let text : HasDigits line (record_bytes r is.check) = has_digits line (record_bytes r is.check) is.bytes is.spelled in
     let bytes : bytes_of line ≡ record_bytes r is.check = text.digits.spelled in
     let count : length (bytes_of line) ≡ told_length (bytes_of line) + 5 =
-        subst (λ bytes. length bytes ≡ told_length bytes + 5) (sym bytes) (length_bytes r is.check) in
+    subst (λ bytes. length bytes ≡ told_length bytes + 5) (sym bytes) (length_bytes r is.check) in
     let double : length (drop 1 line) ≡ 2 * length (record_bytes r is.check) = text.digits.double in
     let even : length (drop 1 line) % 2 ≢ 1 = λ odd. even_not_odd (length (drop 1 line)) (length (record_bytes r is.check)) double odd in
     record {

@@ -94,7 +94,7 @@ module _ (records : List HexRecord) (table : List (Option ℕ)) (is : IsTable re
   pub words_are : (words : List Word) → words ≡ items_below (word_item table) 0x2000 → AreProgramWords records words
   words_are words e =
       let all : Listed (λ (w : Word). w.address) (word_item table) word_keyed 0x2000 words =
-          subst (Listed (λ (w : Word). w.address) (word_item table) word_keyed 0x2000) (sym e) (listed (λ (w : Word). w.address) (word_item table) word_keyed 0x2000) in
+      subst (Listed (λ (w : Word). w.address) (word_item table) word_keyed 0x2000) (sym e) (listed (λ (w : Word). w.address) (word_item table) word_keyed 0x2000) in
       record {
         rising = all.rising;
         exactly = λ address word. (
@@ -151,7 +151,7 @@ module _ (records : List HexRecord) (table : List (Option ℕ)) (is : IsTable re
       → bytes ≡ items_below (aside_item table) 0x10000 → AreBytesAside records bytes
   bytes_are bytes in_range e =
       let all : Listed (λ (b : Aside). b.address) (aside_item table) aside_keyed 0x10000 bytes =
-          subst (Listed (λ (b : Aside). b.address) (aside_item table) aside_keyed 0x10000) (sym e) (listed (λ (b : Aside). b.address) (aside_item table) aside_keyed 0x10000) in
+      subst (Listed (λ (b : Aside). b.address) (aside_item table) aside_keyed 0x10000) (sym e) (listed (λ (b : Aside). b.address) (aside_item table) aside_keyed 0x10000) in
       record {
         rising = all.rising;
         exactly = λ address byte. (
@@ -203,7 +203,7 @@ image_of_table bytes table image given words config aside =
     let faultless : AreFaultless (lines bytes) (all.front ++ all.last ∷ []) = subst (AreFaultless (lines bytes)) all.split given.faultless in
     let once : All (λ r. r.kind ≢ 1) all.front = subst (All (λ r. r.kind ≢ 1)) (init_of_more all.front all.last) faultless.once in
     let ended : all.last.kind ≡ 1 =
-        eqb-true _ _ (sym (end_more all.front all.last (ends_none all.front once)) ∙ ap has_end (sym all.split) ∙ sym given.is_end) in
+    eqb-true _ _ (sym (end_more all.front all.last (ends_none all.front once)) ∙ ap has_end (sym all.split) ∙ sym given.is_end) in
     let agreed : Agree all.front = agree_front all.front all.last faultless.agreed in
     let is : IsTable all.front table = table_front all.front all.last table ended (subst (λ rs. IsTable rs table) all.split given.given) in
     let spelled : SpellsRecords bytes all.front = record { end = all.last; lines = faultless.spelled; ended = ended; once = once } in

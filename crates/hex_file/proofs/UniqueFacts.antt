@@ -42,8 +42,8 @@ line_at : (texts before : List (List ℕ)) (line : List ℕ) (after : List (List
     → texts ≡ before ++ line ∷ after → 0 < length line → AreFaultless before records → HasLine records line all
 line_at texts before line after all records every split some front =
     let joined : filled (before ++ line ∷ after) ≡ filled before ++ line ∷ filled after =
-        filter-append (λ line. nat_lt 0 (length line)) before (line ∷ after)
-        ∙ ap (λ more. filled before ++ more) (filter-append (λ line. nat_lt 0 (length line)) (line ∷ []) after ∙ ap (λ one. one ++ filled after) (filled_one line some)) in
+    filter-append (λ line. nat_lt 0 (length line)) before (line ∷ after)
+    ∙ ap (λ more. filled before ++ more) (filter-append (λ line. nat_lt 0 (length line)) (line ∷ []) after ∙ ap (λ one. one ++ filled after) (filled_one line some)) in
     zip_at (filled before) line (filled after) records all front.spelled
     (subst (λ texts. AllZip IsRecordLine texts all) (ap filled split ∙ joined) every.spelled)
 
@@ -66,7 +66,7 @@ no_fault_at texts before line after all records number every split some front =
     let at : HasLine records line all = line_at texts before line after all records every split some front in
     let agreed : Agree (records ++ at.found ∷ at.after) = subst Agree at.split every.agreed in
     let once : All (λ r. r.kind ≢ 1) (take (length (records ++ at.found ∷ at.after) - 1) (records ++ at.found ∷ at.after)) =
-        subst (λ all. All (λ r. r.kind ≢ 1) (take (length all - 1) all)) at.split every.once in
+    subst (λ all. All (λ r. r.kind ≢ 1) (take (length all - 1) all)) at.split every.once in
     clash_alone records number line at.found (ends_none records (before_last records at.found at.after once)) at.is
     ∙ ap (option_map (λ address. Clash number address)) (agree_no_clash records at.found at.after agreed)
 

@@ -1,7 +1,8 @@
 //! Intel HEX files of PIC16 program memory (Intel, Hexadecimal Object File Format Specification).
 //!
 //! Contracts see an `Image` as its words by address and the bytes of a file. `write` gives the one
-//! written form of an image. The simulator, the compiler and the firmware's promises stand on it.
+//! written form of an image, and `read` the image of a file or its first fault. The simulator, the compiler and
+//! the firmware's promises stand on it.
 #![tactic(auto)]
 
 mod faults;
@@ -11,6 +12,8 @@ mod parsed;
 mod reader;
 mod records;
 mod tables;
+#[cfg(test)]
+mod tests;
 mod texts;
 mod writer;
 

@@ -20,7 +20,7 @@ loop-rest-preserved-in_ok-ended c =
     let not_none = eqb-false _ _ (sym c.is_empty-in-loop-rest.ensures ∙ c.if-not-is_empty.true) in
     let some : 0 < length c.first_line.result.0.now = omega arith in
     let read : AreRead c.args.bytes.now c.loop-rest.rest.now c.loop-rest.number c.loop-rest.table false =
-        subst (AreRead c.args.bytes.now c.loop-rest.rest.now c.loop-rest.number c.loop-rest.table) c.if-ended.false c.loop-rest.invariant.read in
+    subst (AreRead c.args.bytes.now c.loop-rest.rest.now c.loop-rest.number c.loop-rest.table) c.if-ended.false c.loop-rest.invariant.read in
     record {
       few = omega (arith, c.first_line.ensures.shorter, c.loop-rest.invariant.few);
       read = read_line c.args.bytes.now c.loop-rest.rest.now c.first_line.result.0.now c.first_line.result.1.now c.loop-rest.number c.loop-rest.table

@@ -45,8 +45,8 @@ pub returns-clause-image : goal.returns-clause-image
 returns-clause-image c =
     let size : c.in_ok-table.table.len ≡ length c.give_lines.new.table = omega arith in
     let same : c.deref.result.now ≡ c.give_lines.new.table =
-        c.deref.ensures.value ∙ ap (λ n. take n (c.give_lines.new.table ++ drop (length c.give_lines.new.table) c.in_ok-table.table.items)) size
-        ∙ take-append_seam c.give_lines.new.table (drop (length c.give_lines.new.table) c.in_ok-table.table.items) in
+    c.deref.ensures.value ∙ ap (λ n. take n (c.give_lines.new.table ++ drop (length c.give_lines.new.table) c.in_ok-table.table.items)) size
+    ∙ take-append_seam c.give_lines.new.table (drop (length c.give_lines.new.table) c.in_ok-table.table.items) in
     image_of c.args.bytes.now c.give_lines.new.table c.deref.result.now c.in_ok-give_lines.field-0 c.in_ok-image.field-0 c.in_ok-give_lines.ensures.given
     c.if-not-branch.false same c.in_ok-image.ensures.words c.in_ok-image.ensures.config c.in_ok-image.ensures.aside
 

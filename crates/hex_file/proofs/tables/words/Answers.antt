@@ -13,11 +13,11 @@ loop-address-preserved c =
     let table = c.args.table.now in
     let address = c.loop-address.address in
     elim c.match-word_at.branch [
-      in-Some+in_ok-push w ↦
+      | in-Some+in_ok-push w ↦
           let word : Word = record { address = address; word = w.in-Some.word } in
           let item : word_item table address ≡ Some word = ap (option_map (λ word. record { address = address; word = word })) (sym w.in-Some.ensures) in
           cc (items_more (word_item table) address word item, w.words-is, c.loop-address.invariant, w.in_ok-push.ensures.ok)
-    | in_default w ↦
+      | in_default w ↦
           let none : word_item table address ≡ None = ap (option_map (λ word. record { address = address; word = word })) (sym c.word_at.ensures ∙ w.in_default.is) in
           cc (items_same (word_item table) address none, w.words-is, c.loop-address.invariant)
     ]
