@@ -1,7 +1,6 @@
 -- The fault of a line: what its own text says, what the lines before say, and that a record's line has none.
-use Rattle.std.proofs.Common.{◌≡◌, ◌≢◌, ℕ, zero, suc, ◌+◌, ◌-◌, ◌*◌, ◌<◌, ◌≤◌, ◌⊎◌, inl, inr, ⊎_elim, Bool, true, false, if◌then◌else◌, ◌==◌, List, [], ◌∷◌, ◌++◌, length, Option, None, Some, option_map, refl, sym, ◌∙◌, ap, subst, arith}
+use Rattle.std.proofs.Common.{◌≡◌, ℕ, ◌+◌, ◌⊎◌, inl, inr, ⊎_elim, Bool, true, false, if◌then◌else◌, ◌==◌, List, [], ◌∷◌, Option, None, Some, option_map, refl, sym, ◌∙◌, ap}
 use Rattle.std.proofs.lemmas.Bool.{cond-true, cond-false, cases_Bool}
-use Rattle.std.proofs.lemmas.Option.{same_Some}
 use Rattle.hex_file.specs.Faults.{bytes_of, record_in, got_sum, want_sum, has_end, has_bad_char, has_bad_length, has_bad_sum, has_bad_type, has_bad_payload, is_out_of_range, other_at, clash_at, line_fault}
 use Rattle.hex_file.specs.ImageOf.{HexRecord, IsRecordLine}
 use Rattle.hex_file.specs.declared.faults.HexFault.{HexFault}

@@ -1,14 +1,13 @@
 -- The lines of a file that are read: those at its front have no fault.
-use Rattle.std.proofs.Common.{◌≡◌, ◌≢◌, ℕ, zero, suc, ◌+◌, ◌-◌, ◌<◌, ◌≤◌, ◌⊎◌, inl, inr, ⊎_elim, Bool, true, false, ◌||◌, ◌==◌, nat_lt, List, [], ◌∷◌, ◌++◌, length, take, drop, Option, None, Some, refl, sym, ◌∙◌, ap, subst, append_assoc, append-nil, length-append, slice_index_or, arith}
-use Rattle.std.proofs.lemmas.Bool.{cases_Bool, cond-true, cond-false, eqb-true, eqb-false, eq-eqb, ne_eqb, lt-ltb, le-ltb, both_ways, or_from, or_parts}
+use Rattle.std.proofs.Common.{◌≡◌, ◌≢◌, ℕ, zero, suc, ◌+◌, ◌-◌, ◌<◌, Bool, true, false, ◌||◌, ◌==◌, nat_lt, List, [], ◌∷◌, ◌++◌, length, take, Option, None, Some, refl, sym, ◌∙◌, ap, subst, append_assoc, append-nil, length-append, arith}
+use Rattle.std.proofs.lemmas.Bool.{cond-true, cond-false, eqb-false, ne_eqb, lt-ltb, le-ltb, or_parts}
 use Rattle.std.proofs.lemmas.List.Elements.{filter-append}
 use Rattle.std.proofs.lemmas.List.Folds.{list_any-append, list_any_none}
-use Rattle.std.proofs.lemmas.List.{take-append-le, take_all}
 use Rattle.std.proofs.Math.Seq.{take-append_seam}
-use Rattle.std.specs.List.{All, AllZip, filter, list_any}
+use Rattle.std.specs.List.{All, AllZip, filter}
 use Rattle.std.specs.Str.Lines.{lines}
 use Rattle.hex_file.specs.Faults.{has_end, clash_at, line_fault, AreFaultless, IsOfFirstLine}
-use Rattle.hex_file.specs.ImageOf.{HexRecord, IsRecordLine, Agree}
+use Rattle.hex_file.specs.ImageOf.{HexRecord, IsRecordLine}
 use Rattle.hex_file.specs.Tables.{IsTable, IsGivenBy}
 use Rattle.hex_file.specs.declared.faults.HexFault.{HexFault}
 use Rattle.hex_file.specs.declared.faults.HexFault.TheVariants.{AfterEnd}

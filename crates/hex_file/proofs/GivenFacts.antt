@@ -1,12 +1,10 @@
 -- The bytes that records give, one by one, as a function of the address.
-use Rattle.std.proofs.Common.{◌≡◌, ◌≢◌, ℕ, zero, suc, ◌+◌, ◌-◌, ◌*◌, ◌<◌, ◌≤◌, ◌⊎◌, inl, inr, ⊎_elim, Bool, true, false, not, ◌&&◌, ◌==◌, nat_le, cond, List, [], ◌∷◌, ◌++◌, length, take, drop, Option, None, Some, refl, sym, ◌∙◌, ap, subst, slice_get, slice_set, slice_index, slice_index_or, add-zero, add-one, drop-cons, get_or, get_or-set_same, get_or-set_other, length-set, arith}
-use Rattle.std.proofs.lemmas.Bool.{cases_lt, cases_eq, eqb-true, eqb-false, eq-eqb, ne_eqb, leb-true, leb-false, le-leb, lt-leb, cond-true, cond-false, cases_Bool, and_parts, and_from, and_left, and_right, not-false, not-true, not_from_true, both_ways}
-use Rattle.std.proofs.lemmas.Option.{same_Some, slice_get_within}
+use Rattle.std.proofs.Common.{◌≡◌, ◌≢◌, ℕ, zero, suc, ◌+◌, ◌-◌, ◌<◌, ◌≤◌, ⊎_elim, true, false, List, [], ◌∷◌, ◌++◌, length, take, drop, Option, None, Some, refl, sym, ◌∙◌, ap, subst, slice_get, slice_set, slice_index, slice_index_or, add-zero, drop-cons, get_or-set_same, get_or-set_other, length-set, arith}
+use Rattle.std.proofs.lemmas.Bool.{cases_lt, cases_eq, eqb-true, eq-eqb, ne_eqb, le-leb, lt-leb, cond-true, cond-false, and_left, not-false}
 use Rattle.std.proofs.lemmas.List.{drop_all, take_all}
-use Rattle.std.specs.List.{Contains}
 use Rattle.std.specs.Option.{option_or}
 use Rattle.hex_file.specs.Faults.{byte_of, byte_given, is_other, other_at, clash_at}
-use Rattle.hex_file.specs.ImageOf.{HexRecord, GivesByte, IsGiven, Agree}
+use Rattle.hex_file.specs.ImageOf.{HexRecord}
 use Rattle.hex_file.specs.Tables.{IsTable}
 use Rattle.hex_file.proofs.LineFacts.{bytes_from}
 

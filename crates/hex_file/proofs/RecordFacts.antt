@@ -1,16 +1,15 @@
 -- A line without a fault of its own is that of its record, and a record's line has none.
-use Rattle.std.proofs.Common.{◌≡◌, ◌≢◌, ℕ, zero, suc, ◌+◌, ◌-◌, ◌*◌, ◌/◌, ◌%◌, ◌<◌, ◌≤◌, ◌⊎◌, inl, inr, ⊎_elim, Bool, true, false, not, ◌&&◌, ◌||◌, ◌==◌, nat_lt, nat_le, List, [], ◌∷◌, ◌++◌, length, take, drop, map, sum, Option, None, Some, refl, sym, ◌∙◌, ap, subst, codes, slice_index, arith, append-nil, length-append}
-use Rattle.std.proofs.lemmas.Bool.{eqb-true, eqb-false, eq-eqb, ne_eqb, ltb-true, ltb-false, lt-ltb, le-ltb, not-false, not_from_true, or_parts, or_from, and_cases, and_left, and_right, both_ways, and_parts, or_left, or_right, cases_eq}
+use Rattle.std.proofs.Common.{◌≡◌, ◌≢◌, ℕ, suc, ◌+◌, ◌*◌, ◌/◌, ◌%◌, ◌<◌, ◌≤◌, ◌⊎◌, inl, inr, ⊎_elim, Bool, true, false, not, ◌&&◌, ◌||◌, ◌==◌, nat_lt, List, [], ◌∷◌, ◌++◌, length, take, drop, map, sum, refl, sym, ◌∙◌, ap, subst, slice_index, arith, length-append}
+use Rattle.std.proofs.lemmas.Bool.{eqb-true, eqb-false, eq-eqb, ne_eqb, ltb-false, le-ltb, not-false, not_from_true, or_parts, or_from, and_cases, and_left, and_right, both_ways, and_parts, or_left, or_right, cases_eq}
 use Rattle.std.proofs.lemmas.Bool.Decides.{nat_tests}
 use Rattle.std.proofs.Math.Seq.{take-append_seam}
-use Rattle.std.proofs.lemmas.List.{take_more, take_all, nil_from_length, take-append-le, length-take-le}
+use Rattle.std.proofs.lemmas.List.{take_more, take_all, nil_from_length, length-take-le}
 use Rattle.std.proofs.lemmas.List.Sums.{sum_by_push}
 use Rattle.std.specs.Char.{to_ascii_uppercase}
 use Rattle.std.specs.List.{All, flat_map, list_all}
-use Rattle.std.specs.Str.{str_to_ascii_uppercase}
 use Rattle.frp_tree.specs.Digits.{hex2}
 use Rattle.frp_tree.specs.Tokens.{is_hex_digit}
-use Rattle.hex_file.specs.Faults.{spelled_bytes, bytes_of, told_length, record_in, got_sum, want_sum, has_bad_char, has_bad_length, has_bad_sum, has_bad_type, has_bad_payload, is_out_of_range, is_upper, line_fault}
+use Rattle.hex_file.specs.Faults.{bytes_of, told_length, record_in, got_sum, want_sum, has_bad_char, has_bad_length, has_bad_sum, has_bad_type, has_bad_payload, is_out_of_range, is_upper}
 use Rattle.hex_file.specs.ImageOf.{HexRecord, record_bytes, IsAllowed, IsRecordLine}
 use Rattle.hex_file.specs.Written.{check_byte}
 use Rattle.hex_file.proofs.CheckFacts.{check_byte_unique, sum_with_check_byte}

@@ -1,19 +1,19 @@
 -- The image of a table of bytes is that of the records that gave them.
-use Rattle.std.proofs.Common.{◌≡◌, ◌≢◌, ℕ, zero, suc, ◌+◌, ◌-◌, ◌*◌, ◌%◌, ◌<◌, ◌≤◌, ◌⊎◌, ◌↔◌, inl, inr, ⊎_elim, Bool, true, false, not, ◌&&◌, ◌==◌, nat_le, List, [], ◌∷◌, ◌++◌, length, take, Option, None, Some, option_map, refl, sym, ◌∙◌, ap, subst, slice_index_or, lit<, arith}
-use Rattle.std.proofs.lemmas.Bool.{cases_Bool, cond-true, cond-false, and_parts, and_from, eqb-true, eqb-false, ne_eqb, eq-eqb, leb-true, le-leb, not-true, not_from_false}
+use Rattle.std.proofs.Common.{◌≡◌, ◌≢◌, ℕ, ◌+◌, ◌*◌, ◌%◌, ◌<◌, ◌≤◌, ◌⊎◌, ◌↔◌, inl, inr, ⊎_elim, true, not, ◌&&◌, ◌==◌, nat_le, List, [], ◌∷◌, ◌++◌, Option, None, Some, option_map, refl, sym, ◌∙◌, ap, subst, slice_index_or, lit<, arith}
+use Rattle.std.proofs.lemmas.Bool.{cases_Bool, cond-true, cond-false, and_parts, and_from, eqb-true, eqb-false, ne_eqb, leb-true, le-leb, not-true, not_from_false}
 use Rattle.std.proofs.lemmas.List.Elements.{Contains-append_left}
 use Rattle.std.proofs.lemmas.Option.{same_Some}
-use Rattle.std.specs.List.{All, Contains}
+use Rattle.std.specs.List.{All}
 use Rattle.std.specs.Option.{option_or, unwrap_or}
 use Rattle.std.specs.Str.Lines.{lines}
 use Rattle.hex_file.specs.Faults.{byte_of, byte_given, has_end, AreFaultless}
-use Rattle.hex_file.specs.ImageOf.{HexRecord, SpellsRecords, GivesByte, IsGiven, Agree, HasByte, GivesWord, AreProgramWords, AreBytesAside, IsImageOf}
+use Rattle.hex_file.specs.ImageOf.{HexRecord, SpellsRecords, GivesByte, Agree, HasByte, GivesWord, AreProgramWords, AreBytesAside, IsImageOf}
 use Rattle.hex_file.specs.Tables.{IsTable, word_of, word_at, word_item, aside_at, aside_item, items_below, AreGiven}
 use Rattle.hex_file.specs.declared.images.Word.{Word}
 use Rattle.hex_file.specs.declared.images.Aside.{Aside}
 use Rattle.hex_file.specs.declared.images.Image.{Image}
 use Rattle.hex_file.proofs.AgreeFacts.{gives, given_by, gives_of_given, given_of_gives, none_given}
-use Rattle.hex_file.proofs.FrontFacts.{end_more, unended, init_of_more, ends_none}
+use Rattle.hex_file.proofs.FrontFacts.{end_more, init_of_more, ends_none}
 use Rattle.hex_file.proofs.GivenBytes.{word_at as one_word}
 use Rattle.hex_file.proofs.GivenFacts.{given_more, or_none, byte_of_other}
 use Rattle.hex_file.proofs.ImageMade.{given_below}

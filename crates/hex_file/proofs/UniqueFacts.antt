@@ -1,12 +1,12 @@
 -- A file has one fault at most, and none where it has an image.
-use Rattle.std.proofs.Common.{◌≡◌, ◌≢◌, ℕ, zero, suc, ◌+◌, ◌-◌, ◌<◌, ◌≤◌, ◌⊎◌, inl, inr, ⊎_elim, Bool, true, false, ◌==◌, nat_lt, List, [], ◌∷◌, ◌++◌, length, take, drop, Option, None, Some, option_map, refl, sym, ◌∙◌, ap, subst, append_assoc, append-nil, length-append, slice_index_or, arith}
+use Rattle.std.proofs.Common.{◌≡◌, ◌≢◌, ℕ, suc, ◌+◌, ◌-◌, ◌<◌, ◌⊎◌, inl, inr, ⊎_elim, true, nat_lt, List, [], ◌∷◌, ◌++◌, length, take, Option, None, Some, option_map, refl, sym, ◌∙◌, ap, subst, length-append, slice_index_or, arith}
 use Rattle.std.proofs.lemmas.Bool.{both_ways, eq-eqb}
 use Rattle.std.proofs.lemmas.Option.{same_Some}
 use Rattle.std.proofs.lemmas.List.{get_or-take, get_or_append_left, length-take-le}
 use Rattle.std.proofs.lemmas.List.Elements.{filter-append}
 use Rattle.std.specs.List.{All, AllZip}
 use Rattle.std.specs.Str.Lines.{lines}
-use Rattle.hex_file.specs.Faults.{has_end, clash_at, line_fault, AreFaultless, IsOfFirstLine, IsNoEnd, FirstFault}
+use Rattle.hex_file.specs.Faults.{has_end, line_fault, AreFaultless, IsOfFirstLine, FirstFault}
 use Rattle.hex_file.specs.ImageOf.{HexRecord, IsRecordLine, Agree, IsImageOf}
 use Rattle.hex_file.specs.declared.faults.HexFault.{HexFault}
 use Rattle.hex_file.specs.declared.faults.HexFault.TheVariants.{Clash}

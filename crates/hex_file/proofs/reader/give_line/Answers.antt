@@ -1,4 +1,4 @@
-use Rattle.std.proofs.Common.{◌≡◌, ◌⊎◌, inl, inr, ⊎_elim, refl, ◌∙◌}
+use Rattle.std.proofs.Common.{inl, inr, ⊎_elim, refl, ◌∙◌}
 use Rattle.std.proofs.lemmas.Result.{err_from_is_err_and}
 use Rattle.hex_file.specs.Tables.{held_record}
 use Rattle.hex_file.proofs.FaultFacts.{told_alone, clash_alone}

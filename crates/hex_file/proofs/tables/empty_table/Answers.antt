@@ -1,4 +1,4 @@
-use Rattle.std.proofs.Common.{◌≡◌, arith}
+use Rattle.std.proofs.Common.{arith}
 use Rattle.hex_file.proofs.TableFacts.{table_of_none}
 use Rattle.hex_file.proofs.tables.empty_table.Goals as goal
 

@@ -1,9 +1,8 @@
-use Rattle.std.proofs.Common.{◌≡◌, ◌<◌, ◌+◌, Some, List, length, option_map, slice_index, sym, ◌∙◌, ap, subst, arith}
+use Rattle.std.proofs.Common.{◌≡◌, ◌<◌, ◌+◌, Some, length, option_map, slice_index, sym, ◌∙◌, ap, subst, arith}
 use Rattle.std.proofs.lemmas.Result.{err_from_is_err_and}
 use Rattle.hex_file.specs.declared.faults.HexFault.TheVariants.{Clash}
-use Rattle.hex_file.specs.ImageOf.{HexRecord}
 use Rattle.hex_file.specs.Tables.{held_record}
-use Rattle.hex_file.proofs.GivenFacts.{IsPart, part_none, part_more, given_whole, given_other, agrees_whole, clash_whole}
+use Rattle.hex_file.proofs.GivenFacts.{IsPart, part_none, part_more, given_whole, given_other, clash_whole}
 use Rattle.hex_file.proofs.tables.give.Goals as goal
 
 pub loop-i-init : goal.loop-i-init

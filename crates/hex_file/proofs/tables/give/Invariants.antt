@@ -1,4 +1,4 @@
-use Rattle.std.proofs.Common.{◌≡◌, List}
+use Rattle.std.proofs.Common.{List}
 use Rattle.hex_file.specs.ImageOf.{HexRecord}
 use Rattle.hex_file.specs.Tables.{IsTable}
 use Rattle.hex_file.proofs.GivenFacts.{IsPart}

@@ -1,4 +1,4 @@
-use Rattle.std.proofs.Common.{◌≡◌, ◌∷◌, ◌+◌, drop, length, take, sym, ◌∙◌, ap, arith}
+use Rattle.std.proofs.Common.{◌∷◌, ◌+◌, drop, length, sym, ◌∙◌, ap, arith}
 use Rattle.std.proofs.lemmas.List.{drop_all, take_rest}
 use Rattle.std.specs.Str.Lines.{lines}
 use Rattle.hex_file.proofs.LineCuts.{first_of_lines, last_of_lines}
