@@ -26,16 +26,13 @@ end_of_one r = or_false (r.kind == 1)
 pub end_more : (records : List HexRecord) (r : HexRecord) → has_end records ≡ false → has_end (records ++ r ∷ []) ≡ (r.kind == 1)
 end_more records r unended = list_any-append (λ r. r.kind == 1) records (r ∷ []) ∙ ap (λ b. b || has_end (r ∷ [])) unended ∙ end_of_one r
 
-none_ends : (records : List HexRecord) → has_end records ≡ false → All (λ r. r.kind ≢ 1) records
-none_ends [] unended k d below = absurd (omega arith)
-none_ends (r ∷ records) unended zero d below = eqb-false _ _ (or_parts (r.kind == 1) (has_end records) unended).0
-none_ends (r ∷ records) unended (suc k) d below = none_ends records (or_parts (r.kind == 1) (has_end records) unended).1 k d (omega arith)
+pub no_ends : (records : List HexRecord) → has_end records ≡ false → All (λ r. r.kind ≢ 1) records
+no_ends [] none k d below = absurd (omega arith)
+no_ends (r ∷ records) none zero d below = eqb-false _ _ (or_parts (r.kind == 1) (has_end records) none).0
+no_ends (r ∷ records) none (suc k) d below = no_ends records (or_parts (r.kind == 1) (has_end records) none).1 k d (omega arith)
 
 pub ends_none : (records : List HexRecord) → All (λ r. r.kind ≢ 1) records → has_end records ≡ false
 ends_none records all = list_any_none (λ r. r.kind == 1) records (λ k d below. ne_eqb _ _ (all k d below))
-
-pub unended : (records : List HexRecord) → has_end records ≡ false → All (λ r. r.kind ≢ 1) records
-unended = none_ends
 
 -- Lines that aren't empty.
 
@@ -88,7 +85,7 @@ faultless_more texts records line r is unended some spelled agrees = record {
       filter-append (λ line. nat_lt 0 (length line)) texts (line ∷ []) ∙ ap (λ more. filled texts ++ more) (filled_one line some) in
       subst (λ texts. AllZip IsRecordLine texts (records ++ r ∷ [])) (sym one_more) (zip_more (filled texts) records line r is.spelled spelled);
   agreed = agree_more records r is.agreed agrees;
-  once = subst (All (λ r. r.kind ≢ 1)) (sym (init_of_more records r)) (none_ends records unended);
+  once = subst (All (λ r. r.kind ≢ 1)) (sym (init_of_more records r)) (no_ends records unended);
 }
 
 -- The front of a file.

@@ -1,4 +1,4 @@
-use Rattle.std.specs.Prelude.{◌≡◌, ◌≢◌, ℕ, ◌<◌, ◌+◌, ◌-◌, ◌*◌, ◌%◌, ◌⊎◌, Bool, false, not, ◌&&◌, ◌||◌, ◌==◌, nat_lt, nat_le, if◌then◌else◌, List, [], ◌∷◌, ◌++◌, length, take, drop, Option, Some, None, slice_index, slice_get}
+use Rattle.std.specs.Prelude.{◌≡◌, ◌≢◌, ℕ, ◌<◌, ◌+◌, ◌-◌, ◌*◌, ◌%◌, ◌⊎◌, Bool, false, not, ◌&&◌, ◌||◌, ◌==◌, nat_lt, nat_le, if◌then◌else◌, List, [], ◌∷◌, ◌++◌, length, take, drop, Option, Some, None, Result, Ok, Err, slice_index, slice_get}
 use Rattle.std.specs.List.{All, AllZip, filter, list_all, list_any}
 use Rattle.std.specs.Option.{option_map, option_or}
 use Rattle.std.specs.Str.Lines.{lines}
@@ -6,7 +6,8 @@ use Rattle.frp_tree.specs.Tokens.{is_hex_digit, digit_value}
 use Rattle.hex_file.specs.ImageOf.{HexRecord, IsRecordLine, Agree}
 use Rattle.hex_file.specs.Written.{check_byte}
 use Rattle.hex_file.specs.declared.faults.HexFault.{HexFault}
-use Rattle.hex_file.specs.declared.faults.HexFault.TheVariants.{BadChar, BadLength, BadSum, BadType, OutOfRange, Clash, NoEnd, AfterEnd}
+use Rattle.hex_file.specs.declared.faults.HexFault.TheVariants.{BadChar, BadLength, BadSum, BadType, OutOfRange, Clash, NoEnd, AfterEnd, Memory}
+use Rattle.hex_file.specs.declared.images.Image.{Image}
 
 -- The bytes that digits spell, two digits each.
 abbrev pub spelled_bytes : List ℕ → List ℕ
@@ -133,3 +134,12 @@ pub record IsNoEnd (bytes : List ℕ) (fault : HexFault) : Type 0 where
 -- The first fault of a file, by lines.
 abbrev pub FirstFault : List ℕ → HexFault → Type 0
 FirstFault bytes fault = IsOfFirstLine bytes fault ⊎ IsNoEnd bytes fault
+
+-- The answer of the reader is this image, or want of memory; it is this fault, or want of memory.
+abbrev pub IsReadAs : Image → Result Image HexFault → Type 0
+IsReadAs image (Ok told) = told ≡ image
+IsReadAs image (Err fault) = fault ≡ Memory
+
+abbrev pub IsRefusedFor : HexFault → Result Image HexFault → Type 0
+IsRefusedFor fault (Ok image) = ⊥
+IsRefusedFor fault (Err told) = (told ≡ fault) ⊎ (told ≡ Memory)

@@ -1,13 +1,10 @@
-use Rattle.std.specs.Prelude.{◌≡◌, ℕ, zero, suc, ◌<◌, ◌+◌, ◌*◌, ◌%◌, ◌⊎◌, Bool, not, ◌&&◌, ◌==◌, nat_le, if◌then◌else◌, List, [], ◌∷◌, ◌++◌, length, Option, Some, None, Result, Ok, Err, slice_index_or}
+use Rattle.std.specs.Prelude.{◌≡◌, ℕ, zero, suc, ◌<◌, ◌+◌, ◌*◌, ◌%◌, Bool, not, ◌&&◌, ◌==◌, nat_le, if◌then◌else◌, List, [], ◌∷◌, ◌++◌, length, Option, Some, None, slice_index_or}
 use Rattle.std.specs.Option.{option_map, option_to_list}
 use Rattle.std.specs.Str.Lines.{lines}
 use Rattle.hex_file.specs.Faults.{byte_given, clash_at, has_end, AreFaultless}
 use Rattle.hex_file.specs.ImageOf.{HexRecord, IsRecordLine}
-use Rattle.hex_file.specs.declared.faults.HexFault.{HexFault}
-use Rattle.hex_file.specs.declared.faults.HexFault.TheVariants.{Memory}
 use Rattle.hex_file.specs.declared.images.Word.{Word}
 use Rattle.hex_file.specs.declared.images.Aside.{Aside}
-use Rattle.hex_file.specs.declared.images.Image.{Image}
 use Rattle.hex_file.specs.declared.parsed.Record.{Record}
 
 -- The record that is held.
@@ -60,12 +57,3 @@ pub record AreGiven (bytes : List ℕ) (table : List (Option ℕ)) (ended : Bool
   pub faultless : AreFaultless (lines bytes) records
   pub given : IsTable records table
   pub is_end : ended ≡ has_end records
-
--- The answer is this image, or want of memory; this fault, or want of memory.
-abbrev pub IsReadAs : Image → Result Image HexFault → Type 0
-IsReadAs image (Ok told) = told ≡ image
-IsReadAs image (Err fault) = fault ≡ Memory
-
-abbrev pub IsRefusedFor : HexFault → Result Image HexFault → Type 0
-IsRefusedFor fault (Ok image) = ⊥
-IsRefusedFor fault (Err told) = (told ≡ fault) ⊎ (told ≡ Memory)

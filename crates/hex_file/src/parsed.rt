@@ -1,4 +1,4 @@
-ghost use Rattle.std.specs.Prelude.{◌≡◌, ◌<◌, ◌+◌, ◌%◌, ◌⊎◌, ◌==◌, ◌||◌, not, nat_lt, [], length, drop, IfOk, IfErr, OnOk, OnErr, true, false};
+ghost use Rattle.std.specs.Prelude.{◌≡◌, ◌<◌, ◌+◌, ◌%◌, ◌⊎◌, ◌==◌, ◌||◌, not, nat_lt, [], length, IfOk, IfErr, OnOk, OnErr, true, false};
 ghost use Rattle.std.specs.List.{list_all};
 ghost use Rattle.frp_tree.specs.Tokens.{is_hex_digit};
 ghost use Rattle.hex_file.specs.Faults.{

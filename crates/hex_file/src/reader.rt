@@ -1,8 +1,7 @@
-ghost use Rattle.std.specs.Prelude.{◌≡◌, ◌^◌, ◌<◌, ◌⊎◌, ◌∷◌, ◌++◌, ◌==◌, [], length, List as Items, IfOk, IfErr, Some, None, false};
-ghost use Rattle.std.specs.Str.Lines.{lines};
-ghost use Rattle.hex_file.specs.Faults.{line_fault, clash_at, has_end, AreFaultless, IsOfFirstLine, FirstFault};
-ghost use Rattle.hex_file.specs.ImageOf.{HexRecord, IsRecordLine, IsImageOf};
-ghost use Rattle.hex_file.specs.Tables.{IsTable, IsGivenBy, AreGiven, IsReadAs, IsRefusedFor};
+ghost use Rattle.std.specs.Prelude.{◌≡◌, ◌^◌, ◌<◌, ◌⊎◌, [], length, List as Items, IfOk, IfErr, Some, false};
+ghost use Rattle.hex_file.specs.Faults.{line_fault, has_end, IsOfFirstLine, FirstFault, IsReadAs, IsRefusedFor};
+ghost use Rattle.hex_file.specs.ImageOf.{HexRecord, IsImageOf};
+ghost use Rattle.hex_file.specs.Tables.{IsTable, IsGivenBy, AreGiven};
 ghost use Rattle.hex_file.specs.declared.images.Image.{Image as Images};
 ghost use Rattle.hex_file.specs.declared.faults.HexFault.{HexFault as Faults};
 

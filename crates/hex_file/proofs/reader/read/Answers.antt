@@ -6,7 +6,7 @@ use Rattle.hex_file.specs.ImageOf.{IsImageOf}
 use Rattle.hex_file.specs.Tables.{AreGiven, word_at, word_item, aside_item, items_below}
 use Rattle.hex_file.specs.declared.faults.HexFault.TheVariants.{NoEnd}
 use Rattle.hex_file.specs.declared.images.Image.{Image}
-use Rattle.hex_file.proofs.FrontFacts.{unended}
+use Rattle.hex_file.proofs.FrontFacts.{no_ends}
 use Rattle.hex_file.proofs.ImageFacts.{image_determined}
 use Rattle.hex_file.proofs.TableImage.{image_of_table}
 use Rattle.hex_file.proofs.UniqueFacts.{one_fault, no_image_of_fault}
@@ -25,7 +25,7 @@ returns-in_err-give_lines-clause-refused c = λ fault is.
 -- Lines without a fault and without an end record.
 no_end : (bytes : List ℕ) (table : List (Option ℕ)) (ended : Bool) → AreGiven bytes table ended → ended ≡ false → FirstFault bytes NoEnd
 no_end bytes table ended given none =
-    inr (record { records = given.records; faultless = given.faultless; unended = unended given.records (sym given.is_end ∙ none); told = refl })
+    inr (record { records = given.records; faultless = given.faultless; unended = no_ends given.records (sym given.is_end ∙ none); told = refl })
 
 image_of : (bytes : List ℕ) (table items : List (Option ℕ)) (ended : Bool) (image : Image) → AreGiven bytes table ended → ended ≡ true → items ≡ table
     → image.words ≡ items_below (word_item items) 0x2000 → image.config ≡ word_at items 0x2007 → image.aside ≡ items_below (aside_item items) 0x10000
