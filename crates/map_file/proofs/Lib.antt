@@ -1,3 +1,5 @@
 mod Examples
+mod FaultExamples
 pub mod Lines
 mod RuleExamples
+pub mod WholeLines

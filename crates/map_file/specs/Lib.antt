@@ -1,2 +1,3 @@
+pub mod MapFaults
 pub mod MapRules
 pub mod MapText

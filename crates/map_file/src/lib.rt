@@ -5,10 +5,12 @@
 //! text of a map. The compiler, the simulator's trace and the firmware's promises stand on it.
 #![tactic(auto)]
 
+mod faults;
 mod maps;
 #[cfg(test)]
 mod tests;
 mod writer;
 
+pub use faults::MapFault;
 pub use maps::{Map, MapEvent, MapState, Range};
 pub use writer::write;
