@@ -1,5 +1,7 @@
 mod Examples
 mod FaultExamples
+pub mod FieldCuts
 pub mod Lines
 mod RuleExamples
+pub mod ValueFacts
 pub mod WholeLines

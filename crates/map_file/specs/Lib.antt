@@ -1,3 +1,5 @@
+pub mod Entries
+pub mod FieldWords
 pub mod MapFaults
 pub mod MapRules
 pub mod MapText

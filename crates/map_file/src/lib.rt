@@ -5,10 +5,14 @@
 //! text of a map. The compiler, the simulator's trace and the firmware's promises stand on it.
 #![tactic(auto)]
 
+mod entries;
 mod faults;
+mod fields;
+mod line_entries;
 mod maps;
 #[cfg(test)]
 mod tests;
+mod values;
 mod writer;
 
 pub use faults::MapFault;
