@@ -1,3 +1,4 @@
+pub mod EntryLines
 mod Examples
 mod FaultExamples
 pub mod FieldCuts
