@@ -80,3 +80,9 @@ pub fields_told : (bytes f : List ℕ) (fields : List (List ℕ)) → AllVisible
 fields_told bytes f fields all e =
     let same = append_cancel_right bytes (join_with_byte 32 (f ∷ fields)) (codes "\n") (e ∙ joined (f ∷ fields)) in
     ap fields_in same ∙ fields_again f fields all
+
+-- Two lines that are alike have the same fields.
+pub one_fields : (f g : List ℕ) (fs gs : List (List ℕ)) → AllVisible (f ∷ fs) → AllVisible (g ∷ gs) → line (f ∷ fs) ≡ line (g ∷ gs) → f ∷ fs ≡ g ∷ gs
+one_fields f g fs gs all all' e =
+    let bytes = join_with_byte 32 (f ∷ fs) in
+    sym (fields_told bytes f fs all (sym (joined (f ∷ fs)))) ∙ fields_told bytes g gs all' (sym (joined (f ∷ fs)) ∙ e)

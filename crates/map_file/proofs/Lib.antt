@@ -1,4 +1,5 @@
 pub mod EntryLines
+pub mod EntryRows
 mod Examples
 mod FaultExamples
 pub mod FieldCuts
