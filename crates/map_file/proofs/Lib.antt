@@ -1,4 +1,6 @@
+pub mod DraftFacts
 pub mod EntryLines
+pub mod EntryOrder
 pub mod EntryRows
 mod Examples
 mod FaultExamples

@@ -5,6 +5,8 @@
 //! text of a map. The compiler, the simulator's trace and the firmware's promises stand on it.
 #![tactic(auto)]
 
+mod drafting;
+mod drafts;
 mod entries;
 mod faults;
 mod fields;
