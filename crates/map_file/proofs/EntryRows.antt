@@ -15,8 +15,10 @@ use Rattle.map_file.specs.MapRules.{IsMap, RangesRise}
 use Rattle.map_file.specs.MapText.{line, map_text, event_line, state_line, output_line, range_line}
 use Rattle.map_file.specs.MapFaults.{IsWholeLine}
 use Rattle.map_file.specs.Entries.{line_of, fields_of, IsEntry, IsRange, entries_of, report_of}
+use Rattle.map_file.specs.FieldWords.{fields_in}
+use Rattle.map_file.proofs.EntryOrder.{one_map}
 use Rattle.map_file.proofs.WholeLines.{one_line, line_some}
-use Rattle.map_file.proofs.FieldCuts.{AllVisible, all_append, one_fields}
+use Rattle.map_file.proofs.FieldCuts.{AllVisible, all_append, one_fields, fields_told}
 use Rattle.map_file.proofs.EntryLines.{fields_visible, entry_whole, one_entry}
 
 abbrev pub AreEntries : List Entry → Type 0
@@ -84,3 +86,24 @@ rows_lines es = concat_is (map line_of es) ∙ flat_map-map (λ x. x) line_of es
 pub rows_whole : (es : List Entry) → AreEntries es → AllByRecursion IsWholeLine (map line_of es)
 rows_whole [] h = tt
 rows_whole (e ∷ es) h = (entry_whole e h.0, rows_whole es h.1)
+
+-- The line of an entry has the entry's fields.
+pub fields_of_line : (body : List ℕ) (e : Entry) → IsEntry e → body ++ codes "\n" ≡ line_of e → fields_in body ≡ fields_of e
+fields_of_line body e h q = go (fields_of e) (fields_visible e h) (some_field e) q
+  where
+    go : (fs : List (List ℕ)) → AllVisible fs → fs ≢ [] → body ++ codes "\n" ≡ line fs → fields_in body ≡ fs
+    go [] all some same = absurd (some refl)
+    go (f ∷ fs) all some same = fields_told body f fs all same
+
+pub text-append : (xs ys : List Entry) → text_of (xs ++ ys) ≡ text_of xs ++ text_of ys
+text-append xs ys = flat_map-append line_of xs ys
+
+text_none : (es : List Entry) → AreEntries es → [] ≡ text_of es → es ≡ []
+text_none [] h e = refl
+text_none (x ∷ es) h e = absurd (line_some (line_of x) (text_of es) (entry_whole x h.0) (sym e))
+
+-- A text is the text of one map at most.
+pub one_text : (m n : Map) → IsMap m → IsMap n → map_text m ≡ map_text n → m ≡ n
+one_text m n h k e =
+    let all = goes_on (entries_of m) (entries_of n) [] (row_valid m h) (row_valid n k) (sym (row_text m) ∙ e ∙ row_text n ∙ sym (append-nil (text_of (entries_of n)))) in
+    one_map m n (all.entries ∙ ap (λ u. entries_of n ++ u) (text_none all.more all.valid all.text) ∙ append-nil (entries_of n))

@@ -6,9 +6,8 @@ use Rattle.std.proofs.lemmas.List.{take_rest, append_assoc, append_cancel_right}
 use Rattle.std.proofs.lemmas.List.Sums.{fails_before_first}
 use Rattle.std.proofs.lemmas.List.Splits.{slice_split_first, slice_split_none, slice_split_at, join_with_byte-slice_split}
 use Rattle.map_file.specs.FieldWords.{fields_in}
-use Rattle.map_file.specs.MapFaults.{IsWholeLine}
+use Rattle.map_file.specs.MapFaults.{HasNoEnd, IsWholeLine}
 use Rattle.map_file.specs.MapText.{line}
-use Rattle.map_file.proofs.WholeLines.{HasNoEnd}
 
 abbrev is_space : ℕ → Bool
 is_space b = b == 32

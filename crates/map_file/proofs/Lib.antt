@@ -6,6 +6,7 @@ mod Examples
 mod FaultExamples
 pub mod FieldCuts
 pub mod Lines
+pub mod Reading
 mod RuleExamples
 pub mod ValueFacts
 pub mod WholeLines

@@ -19,11 +19,15 @@ pub record Begins (front : List ℕ) : Type 0 where
   pub rest : List ℕ
   pub text : map_text map ≡ front ++ rest
 
+-- No LF is among the bytes.
+abbrev pub HasNoEnd : List ℕ → Type 0
+HasNoEnd bytes = AllByRecursion (λ b. b ≢ 10) bytes
+
 -- A whole line has LF at its end, and nowhere else.
 pub record IsWholeLine (line : List ℕ) : Type 0 where
   pub body : List ℕ
   pub ends : line ≡ body ++ codes "\n"
-  pub one : AllByRecursion (λ b. b ≢ 10) body
+  pub one : HasNoEnd body
 
 -- Line n, counted from 1, is the first that isn't in the form at its place. The bytes are no map's text. Before
 -- line n stand whole lines with which some map's text begins, and no whole line stands next with which, behind

@@ -12,6 +12,7 @@ mod faults;
 mod fields;
 mod line_entries;
 mod maps;
+mod reader;
 #[cfg(test)]
 mod tests;
 mod values;
@@ -19,4 +20,5 @@ mod writer;
 
 pub use faults::MapFault;
 pub use maps::{Map, MapEvent, MapState, Range};
+pub use reader::read;
 pub use writer::write;
