@@ -1,5 +1,5 @@
 -- How far bytes have been read as a map's text, and what ends the reading.
-use Rattle.std.proofs.Common.{◌≡◌, ◌≢◌, ℕ, ◌+◌, ◌*◌, ◌<◌, ◌≤◌, true, false, List, [], ◌∷◌, ◌++◌, length, map, Some, codes, refl, sym, ap, subst, ◌∙◌, arith}
+use Rattle.std.proofs.Common.{◌≡◌, ◌≢◌, ℕ, ◌+◌, ◌*◌, ◌<◌, ◌≤◌, true, false, List, [], ◌∷◌, ◌++◌, length, map, Some, Ok, Err, codes, refl, sym, ap, subst, ◌∙◌, arith}
 use Rattle.std.specs.List.{concat}
 use Rattle.std.proofs.lemmas.List.{append_assoc, append-nil, length-append, length-map}
 use Rattle.map_file.specs.declared.maps.Map.{Map}
@@ -7,9 +7,10 @@ use Rattle.map_file.specs.declared.drafts.Draft.{Draft}
 use Rattle.map_file.specs.declared.entries.Entry.{Entry}
 use Rattle.map_file.specs.declared.entries.Entry.TheVariants as entry
 use Rattle.map_file.specs.declared.entries.Section.TheVariants as section
+use Rattle.map_file.specs.declared.faults.MapFault.TheVariants.{Line}
 use Rattle.map_file.specs.MapRules.{IsMap}
 use Rattle.map_file.specs.MapText.{map_text}
-use Rattle.map_file.specs.MapFaults.{IsMapText, Begins, HasNoEnd, IsWholeLine, FirstFaulty}
+use Rattle.map_file.specs.MapFaults.{IsMapText, Begins, HasNoEnd, IsWholeLine, FirstFaulty, IsReadAs}
 use Rattle.map_file.specs.Entries.{line_of, fields_of, IsEntry, entries_of}
 use Rattle.map_file.specs.FieldWords.{fields_in}
 use Rattle.map_file.specs.Drafts.{Added, empty_draft}
@@ -17,7 +18,7 @@ use Rattle.map_file.proofs.WholeLines.{one_line, line_some, no_line}
 use Rattle.map_file.proofs.FieldCuts.{all_append, line_told}
 use Rattle.map_file.proofs.EntryLines.{entry_whole, one_entry}
 use Rattle.map_file.proofs.EntryOrder.{run, run_map}
-use Rattle.map_file.proofs.EntryRows.{AreEntries, text_of, GoesOn, goes_on, row_text, row_valid, rows_lines, rows_whole, fields_of_line, text-append}
+use Rattle.map_file.proofs.EntryRows.{AreEntries, text_of, GoesOn, goes_on, row_text, row_valid, rows_lines, rows_whole, fields_of_line, text-append, one_text}
 use Rattle.map_file.proofs.DraftFacts.{IsDraft, so_far, empty_is_draft, still_to_come, draft_more, draft_refuses}
 
 -- The entries of the whole lines before `rest` made the draft. `number` is that of the next line.
@@ -53,8 +54,8 @@ read_more bytes rest body behind number d d' e h cut fields v added =
     record {
       entries = h.entries ++ e ∷ [];
       cut = h.cut ∙ line_behind (text_of h.entries) rest body behind cut
-      ∙ ap (λ u. (text_of h.entries ++ u) ++ behind) (told ∙ sym (append-nil (line_of e)))
-      ∙ ap (λ u. u ++ behind) (sym (text-append h.entries (e ∷ [])));
+          ∙ ap (λ u. (text_of h.entries ++ u) ++ behind) (told ∙ sym (append-nil (line_of e)))
+          ∙ ap (λ u. u ++ behind) (sym (text-append h.entries (e ∷ [])));
       valid = all_append IsEntry h.entries (e ∷ []) h.valid (v, tt);
       counted = omega (arith, h.counted, length-append h.entries (e ∷ []));
       draft = draft_more h.entries d d' e h.draft v added;
@@ -102,9 +103,9 @@ faulty_line bytes rest body behind number d h cut one none =
       number = omega (arith, h.counted, length-map h.entries line_of);
       begins = read_begins bytes rest number d h;
       refused = λ line behind' whole' e b.
-        let same = (one_line line (body ++ codes "\n") behind' behind whole' whole (sym e ∙ cut ∙ sym (append_assoc body (codes "\n") behind))).0 in
-        let next = next_entry h.entries line h.valid whole' (subst Begins (ap (λ u. u ++ line) (rows_lines h.entries)) b) in
-        none (subst (NextEntry h.entries) same next);
+          let same = (one_line line (body ++ codes "\n") behind' behind whole' whole (sym e ∙ cut ∙ sym (append_assoc body (codes "\n") behind))).0 in
+          let next = next_entry h.entries line h.valid whole' (subst Begins (ap (λ u. u ++ line) (rows_lines h.entries)) b) in
+          none (subst (NextEntry h.entries) same next);
       no_text = λ t. none (next_entry h.entries (body ++ codes "\n") h.valid whole (record { map = t.map; rules = t.rules; rest = behind; text = sym t.text ∙ h.cut ∙ line_behind (text_of h.entries) rest body behind cut }));
     }
 
@@ -131,8 +132,8 @@ no_line_there bytes rest number d h one open_end = record {
   begins = read_begins bytes rest number d h;
   refused = λ line behind whole e b. no_line rest line behind one whole e;
   no_text = λ t.
-    let all = goes_on (entries_of t.map) h.entries rest (row_valid t.map t.rules) h.valid (sym (row_text t.map) ∙ sym t.text ∙ h.cut) in
-    go t.map all.more all.valid all.text all.entries;
+      let all = goes_on (entries_of t.map) h.entries rest (row_valid t.map t.rules) h.valid (sym (row_text t.map) ∙ sym t.text ∙ h.cut) in
+      go t.map all.more all.valid all.text all.entries;
 }
   where
     go : (m : Map) (more : List Entry) → AreEntries more → rest ≡ text_of more → entries_of m ≡ h.entries ++ more → ⊥
@@ -148,3 +149,10 @@ read_whole bytes rest number d h none end = (
   h.draft.rules,
   h.cut ∙ ap (λ u. text_of h.entries ++ u) none ∙ append-nil (text_of h.entries) ∙ ap text_of (h.draft.entries ∙ ap (λ s. so_far s d.map) end) ∙ sym (row_text d.map),
 )
+
+-- Bytes with a faulty line are no map's text, and a map's text is the text of this map alone.
+pub faulty_no_map : (bytes : List ℕ) (n : ℕ) → FirstFaulty bytes n → (m : Map) → IsMap m → bytes ≡ map_text m → IsReadAs m (Err (Line n))
+faulty_no_map bytes n fault m rules e = absurd (fault.no_text (record { map = m; rules = rules; text = e }))
+
+pub read_alone : (bytes : List ℕ) (found : Map) → IsMap found × (bytes ≡ map_text found) → (m : Map) → IsMap m → bytes ≡ map_text m → IsReadAs m (Ok found)
+read_alone bytes found h m rules e = one_text found m h.0 rules (sym h.1 ∙ e)

@@ -71,12 +71,11 @@ found_none xs = let n = position_or_len is_end xs in cond_both (nat_lt n (length
 
 pub first_line : (xs : List ℕ) (i : ℕ) → Some i ≡ position is_end xs → HasNoEnd (take i xs) × (xs ≡ take i xs ++ (10 ∷ take (length xs - (i + 1)) (drop (i + 1) xs)))
 first_line xs i e =
-    let (at, inside) = found_at xs i e in
-    (
+    let (at, inside) = found_at xs i e in (
       no_end_before xs i (omega (arith, at)),
       line_cut xs (subst (λ k. k < length xs) (sym at) inside)
-      ∙ ap (λ k. take k xs ++ (10 ∷ drop (k + 1) xs)) at
-      ∙ ap (λ u. take i xs ++ (10 ∷ u)) (sym (take_rest xs (i + 1))),
+          ∙ ap (λ k. take k xs ++ (10 ∷ drop (k + 1) xs)) at
+          ∙ ap (λ u. take i xs ++ (10 ∷ u)) (sym (take_rest xs (i + 1))),
     )
 
 pub no_line_left : (xs : List ℕ) → None ≡ position is_end xs → HasNoEnd xs

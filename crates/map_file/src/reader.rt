@@ -1,10 +1,11 @@
-ghost use Rattle.std.specs.Prelude.{◌≡◌, ◌^◌, ◌<◌, ◌++◌, ◌∷◌, length, position, ◌==◌, IfOk, IfErr, MatchOption};
+ghost use Rattle.std.specs.Prelude.{◌≡◌, ◌^◌, ◌<◌, ◌++◌, ◌∷◌, length, position, ◌==◌, IfOk, IfErr, MatchOption, IsTrue, ◌↔◌, []};
 ghost use Rattle.map_file.specs.declared.maps.Map.{Map as Maps};
 ghost use Rattle.map_file.specs.MapFaults.{HasNoEnd, IsFaultOf, IsReadAs};
 ghost use Rattle.map_file.specs.MapRules.{IsMap};
 ghost use Rattle.map_file.specs.MapText.{map_text};
 
 use crate::drafting::{add, empty};
+use crate::drafts::Draft;
 use crate::entries::Section;
 use crate::faults::MapFault;
 use crate::line_entries::entry_in;
@@ -28,6 +29,13 @@ fn split_line(bytes: &[u8]) -> Option<(&[u8], &[u8])>
     Some((&bytes[..end], &bytes[end + 1..]))
 }
 
+// Whether the last line has been read and nothing is left.
+fn is_whole(draft: &Draft, rest: &[u8]) -> bool
+    ensures { IsTrue result ↔ ((rest.now ≡ []) × (draft.now.section ≡ Section.End)) }
+{
+    rest.is_empty() && draft.section == Section::End
+}
+
 /// The map whose text the bytes are. `Line(n)` where line n, counted from 1, is the first that isn't in the form
 /// at its place: a line that is missing, or the last without its LF, isn't either. `Memory` is want of memory.
 /// The time is linear in the bytes, but for names, which are compared two by two.
@@ -45,13 +53,14 @@ pub fn read(alloc: Global, bytes: &[u8]) -> Result<Map, MapFault>
         let Some(entry) = entry_in(alloc, line)? else {
             return Err(MapFault::Line(number));
         };
-        if !add(&mut draft, entry)? {
+        let added = add(&mut draft, entry)?;
+        if !added {
             return Err(MapFault::Line(number));
         }
         rest = behind;
         number += 1;
     }
-    if !rest.is_empty() || draft.section != Section::End {
+    if !is_whole(&draft, rest) {
         return Err(MapFault::Line(number));
     }
     Ok(draft.map)
