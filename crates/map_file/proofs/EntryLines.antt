@@ -1,13 +1,12 @@
 -- The line of an entry is a whole line, and tells the entry. So lines in a row tell their entries.
-use Rattle.std.proofs.Common.{◌≡◌, ◌≢◌, ℕ, zero, suc, ◌+◌, ◌*◌, ◌/◌, ◌%◌, ◌^◌, ◌<◌, ◌≤◌, Bool, true, false, ◌&&◌, ◌||◌, ◌==◌, nat_lt, nat_le, List, [], ◌∷◌, ◌++◌, length, map, Option, Some, None, codes, refl, sym, ap, subst, ◌∙◌, arith, lit<}
-use Rattle.std.specs.List.{list_all, flat_map, AllByRecursion}
+use Rattle.std.proofs.Common.{◌≡◌, ℕ, zero, suc, ◌/◌, ◌%◌, ◌^◌, ◌<◌, ◌≤◌, true, ◌||◌, nat_le, List, [], ◌∷◌, length, Option, Some, None, codes, refl, sym, ap, subst, ◌∙◌, arith}
+use Rattle.std.specs.List.{list_all}
 use Rattle.std.specs.Map.{lookup}
 use Rattle.std.specs.Str.{bytes_eq}
 use Rattle.std.specs.Str.Parse.{AllDigits}
 use Rattle.std.specs.Fmt.{decimal}
 use Rattle.std.proofs.lemmas.Bool.{and_parts, and_from}
 use Rattle.std.proofs.lemmas.Bool.Decides.{nat_tests}
-use Rattle.std.proofs.lemmas.List.{append_assoc}
 use Rattle.std.proofs.lemmas.Fmt.{decimal_is_IsNumeral, decimal_injective}
 use Rattle.std.proofs.lemmas.Str.Parse.{digit_from_value}
 use Rattle.frp_tree.specs.Digits.{hex_digit, hex3, hex4}
@@ -26,12 +25,10 @@ use Rattle.map_file.specs.declared.entries.Report.{Report as Reports}
 use Rattle.map_file.specs.declared.entries.Entry.{Entry}
 use Rattle.map_file.specs.declared.entries.Entry.TheVariants as entry
 use Rattle.map_file.specs.MapRules.{IsEvent, IsState, AddressesFit}
-use Rattle.map_file.specs.MapText.{line, addresses}
+use Rattle.map_file.specs.MapText.{addresses}
 use Rattle.map_file.specs.MapFaults.{IsWholeLine}
 use Rattle.map_file.specs.Entries.{event_fields, state_fields, range_field, report_fields, fields_of, line_of, IsEntry, IsRange, IsReport}
-use Rattle.map_file.specs.FieldWords.{fields_in}
-use Rattle.map_file.proofs.WholeLines.{one_line, line_some}
-use Rattle.map_file.proofs.FieldCuts.{is_visible, AllVisible, line_whole, fields_told}
+use Rattle.map_file.proofs.FieldCuts.{is_visible, AllVisible, line_whole}
 
 -- Each byte of a field is above the space.
 

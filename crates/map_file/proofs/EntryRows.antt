@@ -1,18 +1,16 @@
 -- The lines of entries in a row: they are cut in one way, and a map's text is the row of its entries' lines.
-use Rattle.std.proofs.Common.{◌≡◌, ◌≢◌, ℕ, ◌+◌, ◌<◌, ◌≤◌, List, [], ◌∷◌, ◌++◌, length, map, codes, refl, sym, ap, subst, ◌∙◌, arith}
+use Rattle.std.proofs.Common.{◌≡◌, ◌≢◌, ℕ, ◌+◌, List, [], ◌∷◌, ◌++◌, map, codes, refl, sym, ap, ◌∙◌}
 use Rattle.std.specs.List.{flat_map, concat, AllByRecursion}
 use Rattle.std.proofs.lemmas.List.{append_assoc, append-nil}
 use Rattle.std.proofs.lemmas.List.Concat.{concat_is}
 use Rattle.std.proofs.lemmas.List.Folds.{flat_map-map}
 use Rattle.std.proofs.lemmas.Grind.{flat_map-append}
-use Rattle.map_file.specs.declared.maps.MapEvent.{MapEvent}
-use Rattle.map_file.specs.declared.maps.MapState.{MapState}
 use Rattle.map_file.specs.declared.maps.Range.{Range}
 use Rattle.map_file.specs.declared.maps.Map.{Map}
 use Rattle.map_file.specs.declared.entries.Entry.{Entry}
 use Rattle.map_file.specs.declared.entries.Entry.TheVariants as entry
 use Rattle.map_file.specs.MapRules.{IsMap, RangesRise}
-use Rattle.map_file.specs.MapText.{line, map_text, event_line, state_line, output_line, range_line}
+use Rattle.map_file.specs.MapText.{line, map_text}
 use Rattle.map_file.specs.MapFaults.{IsWholeLine}
 use Rattle.map_file.specs.Entries.{line_of, fields_of, IsEntry, IsRange, entries_of, report_of}
 use Rattle.map_file.specs.FieldWords.{fields_in}

@@ -1,6 +1,6 @@
 -- The fields of a line are cut off one by one, and are found again where they were joined by single spaces.
-use Rattle.std.proofs.Common.{zero, suc, nat_lt, ◌≡◌, ◌≢◌, ℕ, ◌+◌, ◌-◌, ◌<◌, ◌≤◌, Bool, true, false, ◌==◌, List, [], ◌∷◌, ◌++◌, length, take, drop, Option, Some, None, position, codes, cond, refl, sym, ap, subst, ◌∙◌, arith}
-use Rattle.std.specs.List.{All, list_all, join_with_byte, slice_split, position_or_len, AllByRecursion}
+use Rattle.std.proofs.Common.{zero, suc, nat_lt, ◌≡◌, ◌≢◌, ℕ, ◌+◌, ◌-◌, ◌<◌, ◌≤◌, Bool, true, false, ◌==◌, List, [], ◌∷◌, ◌++◌, length, take, drop, Some, None, position, codes, refl, sym, ap, subst, ◌∙◌, arith}
+use Rattle.std.specs.List.{All, list_all, join_with_byte, position_or_len, AllByRecursion}
 use Rattle.std.proofs.lemmas.Bool.{cond_both, ltb-true, ltb-false, and_parts, ne_eqb}
 use Rattle.std.proofs.lemmas.List.{take_rest, append_assoc, append_cancel_right}
 use Rattle.std.proofs.lemmas.List.Sums.{fails_before_first}

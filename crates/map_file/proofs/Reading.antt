@@ -1,5 +1,5 @@
 -- How far bytes have been read as a map's text, and what ends the reading.
-use Rattle.std.proofs.Common.{◌≡◌, ◌≢◌, ℕ, ◌+◌, ◌*◌, ◌<◌, ◌≤◌, true, false, List, [], ◌∷◌, ◌++◌, length, map, Some, Ok, Err, codes, refl, sym, ap, subst, ◌∙◌, arith}
+use Rattle.std.proofs.Common.{◌≡◌, ◌≢◌, ℕ, ◌+◌, ◌*◌, ◌≤◌, true, false, List, [], ◌∷◌, ◌++◌, length, map, Some, Ok, Err, codes, refl, sym, ap, subst, ◌∙◌, arith}
 use Rattle.std.specs.List.{concat}
 use Rattle.std.proofs.lemmas.List.{append_assoc, append-nil, length-append, length-map}
 use Rattle.map_file.specs.declared.maps.Map.{Map}
@@ -10,7 +10,7 @@ use Rattle.map_file.specs.declared.entries.Section.TheVariants as section
 use Rattle.map_file.specs.declared.faults.MapFault.TheVariants.{Line}
 use Rattle.map_file.specs.MapRules.{IsMap}
 use Rattle.map_file.specs.MapText.{map_text}
-use Rattle.map_file.specs.MapFaults.{IsMapText, Begins, HasNoEnd, IsWholeLine, FirstFaulty, IsReadAs}
+use Rattle.map_file.specs.MapFaults.{Begins, HasNoEnd, IsWholeLine, FirstFaulty, IsReadAs}
 use Rattle.map_file.specs.Entries.{line_of, fields_of, IsEntry, entries_of}
 use Rattle.map_file.specs.FieldWords.{fields_in}
 use Rattle.map_file.specs.Drafts.{Added, empty_draft}
@@ -18,7 +18,7 @@ use Rattle.map_file.proofs.WholeLines.{one_line, line_some, no_line}
 use Rattle.map_file.proofs.FieldCuts.{all_append, line_told}
 use Rattle.map_file.proofs.EntryLines.{entry_whole, one_entry}
 use Rattle.map_file.proofs.EntryOrder.{run, run_map}
-use Rattle.map_file.proofs.EntryRows.{AreEntries, text_of, GoesOn, goes_on, row_text, row_valid, rows_lines, rows_whole, fields_of_line, text-append, one_text}
+use Rattle.map_file.proofs.EntryRows.{AreEntries, text_of, goes_on, row_text, row_valid, rows_lines, rows_whole, fields_of_line, text-append, one_text}
 use Rattle.map_file.proofs.DraftFacts.{IsDraft, so_far, empty_is_draft, still_to_come, draft_more, draft_refuses}
 
 -- The entries of the whole lines before `rest` made the draft. `number` is that of the next line.

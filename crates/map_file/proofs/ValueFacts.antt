@@ -1,17 +1,17 @@
 -- What a field of a map's text is, by its kind: the bytes of a name and of a number, and numbers in both bases.
-use Rattle.std.proofs.Common.{◌≡◌, ◌≢◌, ℕ, zero, suc, ◌+◌, ◌*◌, ◌/◌, ◌%◌, ◌^◌, ◌<◌, ◌≤◌, Bool, true, false, not, ◌&&◌, ◌||◌, ◌==◌, nat_le, List, [], ◌∷◌, ◌++◌, length, get_or, Option, Some, None, Result, Ok, Err, codes, refl, sym, ap, subst, ◌∙◌, arith, rules}
-use Rattle.std.specs.List.{list_all, AllByRecursion}
+use Rattle.std.proofs.Common.{◌≡◌, ◌≢◌, ℕ, zero, suc, ◌^◌, ◌<◌, true, ◌||◌, nat_le, List, [], ◌∷◌, ◌++◌, length, get_or, Some, None, Result, Ok, Err, codes, refl, sym, ap, subst, ◌∙◌, arith}
+use Rattle.std.specs.List.{list_all}
 use Rattle.std.specs.Str.{IsAscii, IsUtf8}
 use Rattle.std.specs.Fmt.{decimal}
 use Rattle.std.specs.Result.{OkIff, result_ok}
 use Rattle.std.specs.Str.Parse.{ParsesUnsigned}
-use Rattle.std.proofs.lemmas.Bool.{and_parts, false≢true, eqb-false, eq-eqb, ne_eqb, not-true, cases_lt}
+use Rattle.std.proofs.lemmas.Bool.{and_parts}
 use Rattle.std.proofs.lemmas.Bool.Decides.{nat_tests}
 use Rattle.std.proofs.lemmas.Str.{IsUtf8-from_ascii}
 use Rattle.std.proofs.lemmas.Str.Parse.{IsNumeralModel, numerals_by_value, tells_digits, parse_plain}
 use Rattle.std.specs.Str.Parse.{AllDigits, digits_value}
-use Rattle.std.proofs.lemmas.Fmt.{IsAscii-decimal, parse-decimal, first_decimal, decimal_digit, decimal_nonempty, decimal-digits_value}
-use Rattle.frp_tree.specs.Digits.{hex_digit, hex3, hex4}
+use Rattle.std.proofs.lemmas.Fmt.{IsAscii-decimal, parse-decimal, first_decimal, decimal_digit, decimal-digits_value}
+use Rattle.frp_tree.specs.Digits.{hex3}
 use Rattle.frp_tree.specs.Names.{is_letter, is_digit, has_form_of_name, is_name, type_name}
 use Rattle.frp_tree.specs.declared.syntax.Ty.{Ty}
 use Rattle.frp_tree.specs.declared.syntax.Ty.TheVariants as ty
