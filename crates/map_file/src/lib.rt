@@ -2,7 +2,8 @@
 //! the firmware keeps.
 //!
 //! Contracts see a `Map` as its lists and numbers, and its text as the bytes of a file. `write` gives the one
-//! text of a map, and `read` the one map of a text, or its first faulty line. The compiler, the simulator's trace and the firmware's promises stand on it.
+//! text of a map, and `read` the one map of a text, or its first faulty line. The compiler, the simulator's trace
+//! and the firmware's promises stand on it.
 #![tactic(auto)]
 
 mod drafting;
