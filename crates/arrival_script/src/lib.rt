@@ -4,6 +4,7 @@
 //! its cause.
 #![tactic(auto)]
 
+mod fields;
 mod scripts;
 
 pub use scripts::{Arrival, Cause, Script, ScriptFault};
