@@ -70,7 +70,7 @@ fields-cut [] h some = absurd (omega arith)
 fields-cut (x ∷ xs) h some =
     let p : ℕ → Bool = λ b. b == 32 in
     let e : take (position_or_len p (x ∷ xs)) (x ∷ xs) ≡ x ∷ take (position_or_len p xs) xs =
-        ap (λ b. take (cond (not b) (1 + position_or_len p xs) 0) (x ∷ xs)) h ∙ ap (λ n. take n (x ∷ xs)) (one-add (position_or_len p xs)) in
+    ap (λ b. take (cond (not b) (1 + position_or_len p xs) 0) (x ∷ xs)) h ∙ ap (λ n. take n (x ∷ xs)) (one-add (position_or_len p xs)) in
     ap (filter (λ field. nat_lt 0 (length field))) (split-cut p (x ∷ xs))
     ∙ ap (λ w. cond (nat_lt 0 (length w)) (w ∷ rest) rest) e
     ∙ ap (λ b. cond b ((x ∷ take (position_or_len p xs) xs) ∷ rest) rest) (some-lt x (take (position_or_len p xs) xs))

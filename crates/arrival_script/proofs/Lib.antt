@@ -1,2 +1,5 @@
+pub mod DigitFacts
 mod Examples
 pub mod FieldFacts
+pub mod NameFacts
+pub mod SourceFacts

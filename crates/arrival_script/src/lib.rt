@@ -4,6 +4,7 @@
 //! its cause.
 #![tactic(auto)]
 
+mod entries;
 mod fields;
 mod scripts;
 
