@@ -1,5 +1,8 @@
+pub mod CauseFacts
 pub mod DigitFacts
+pub mod DraftFacts
 mod Examples
 pub mod FieldFacts
+pub mod ListFacts
 pub mod NameFacts
 pub mod SourceFacts

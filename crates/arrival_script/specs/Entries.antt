@@ -33,7 +33,7 @@ Says line (entry.Fill byte) = (is_fill line ≡ true) × (is_at line ≡ false) 
 Says line (entry.At arrival) = (is_fill line ≡ false) × (is_at line ≡ true) × (is_steps line ≡ false) × (arrival ≡ arrival_of line) × (0 < arrival.sources) × (arrival.sources < 2048)
 Says line (entry.Steps n) = (is_fill line ≡ false) × (is_at line ≡ false) × (is_steps line ≡ true) × (n ≡ value line) × (1 ≤ n) × (n ≤ 10000000)
 
--- What a line says by itself, or the cause that applies to it.
+-- What a line says by itself, or the cause that applies to it. No other cause than `BadLine` applies to a `fill` line.
 abbrev pub EntryOf : Line → Result Entry Cause → Type 0
 EntryOf line (Ok found) = (own_cause line ≡ None) × Says line found
-EntryOf line (Err cause) = own_cause line ≡ Some cause
+EntryOf line (Err cause) = (own_cause line ≡ Some cause) × (is_fill line ≡ true → cause ≡ BadLine)

@@ -162,11 +162,14 @@ arrivals_in told = map arrival_of (filter is_at told)
 abbrev pub steps_of : List Line → Option ℕ
 steps_of told = elim (find is_steps told) [ None ↦ None | Some line ↦ Some (value line) ]
 
--- The script that a text states.
-pub record IsScriptOf (bytes : List ℕ) (script : Script) : Type 0 where
-  pub fill : script.fill ≡ fill_of (told_lines bytes)
-  pub arrivals : script.arrivals ≡ arrivals_in (told_lines bytes)
-  pub steps : steps_of (told_lines bytes) ≡ Some script.steps
+-- The script that lines state, and that of a text.
+pub record States (told : List Line) (script : Script) : Type 0 where
+  pub fill : script.fill ≡ fill_of told
+  pub arrivals : script.arrivals ≡ arrivals_in told
+  pub steps : steps_of told ≡ Some script.steps
+
+abbrev pub IsScriptOf : List ℕ → Script → Type 0
+IsScriptOf bytes script = States (told_lines bytes) script
 
 -- An arrival before the last step, of at least one source.
 pub record IsArrival (steps : ℕ) (a : Arrival) : Type 0 where

@@ -4,6 +4,7 @@
 //! its cause.
 #![tactic(auto)]
 
+mod drafts;
 mod entries;
 mod fields;
 mod scripts;

@@ -1,4 +1,5 @@
 use frp_tree::List;
+use std::alloc::AllocError;
 
 /// Sources that arrive at boundary `at`: bit i of `sources` is the source with number i.
 #[derive(Clone, Copy, Debug, PartialEq, Eq)]
@@ -45,4 +46,15 @@ pub enum Cause {
 pub enum ScriptFault {
     Line { line: u32, cause: Cause },
     Memory,
+}
+
+impl From<AllocError> for ScriptFault {
+    ghost use Rattle.std.specs.Prelude.{◌≡◌};
+    ghost use Rattle.arrival_script.specs.declared.scripts.ScriptFault.TheVariants.{Memory};
+
+    ghost from_gives = { λ _ fault. fault ≡ Memory };
+
+    fn from(_error: AllocError) -> ScriptFault {
+        ScriptFault::Memory
+    }
 }
