@@ -5,4 +5,5 @@ mod Examples
 pub mod FieldFacts
 pub mod ListFacts
 pub mod NameFacts
+pub mod ReadFacts
 pub mod SourceFacts

@@ -7,6 +7,8 @@
 mod drafts;
 mod entries;
 mod fields;
+mod reader;
 mod scripts;
 
+pub use reader::read_script;
 pub use scripts::{Arrival, Cause, Script, ScriptFault};
