@@ -1,4 +1,6 @@
 pub mod BoundExamples
+pub mod CausalExamples
+pub mod CausalLaws
 pub mod DigitFacts
 pub mod FirstForm
 pub mod LargeBoundExamples

@@ -1,4 +1,5 @@
 pub mod Bounds
+pub mod Causal
 pub mod Digits
 pub mod Fronts
 pub mod Literals

@@ -8,6 +8,7 @@ pub mod CommitsAlone
 pub mod Disturbed
 pub mod Early
 pub mod Edges
+pub mod FlagsSides
 pub mod GoodFollows
 pub mod GoodLog
 pub mod GoodOnce

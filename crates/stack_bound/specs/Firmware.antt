@@ -27,6 +27,7 @@ use Rattle.map_file.specs.MapRules.{AllDiffer, IsMap}
 use Rattle.map_file.specs.MapText.{map_text}
 use Rattle.stack_bound.specs.MapNames.{is_listed}
 use Rattle.stack_bound.specs.Counts.{chip_after}
+use Rattle.stack_bound.specs.Boots.{FlagsStay}
 use Rattle.stack_bound.specs.Follows.{Follows}
 use Rattle.stack_bound.specs.Setups.{SetupsStand}
 use Rattle.stack_bound.specs.Once.{Once}
@@ -118,11 +119,12 @@ is_stop Took = false
 is_stop (Ran address word) = false
 is_stop (Stopped address why) = true
 
--- Over the first n steps the log follows the program, each once and urgent, and what is set up stands; none stops, each
--- writes a listed register where it writes one, and the depth is at most the map's.
+-- Over the first n steps the log follows the program, each once and urgent; what is set up stands, and the boot clears no
+-- flag; none stops, each writes a listed register where it writes one, and the depth is at most the map's.
 pub record Keeps (p : ProgramTree) (m : Map) (log : Log) (n : ℕ) : Type 0 where
   pub follows : Follows p m log n
   pub setups : SetupsStand p m log n
+  pub flags : FlagsStay m log n
   pub once : Once m log n
   pub urgent : Urgent p m log n
   pub goes_on : (k : ℕ) → k < n → is_stop (log k).did ≡ false

@@ -1,3 +1,4 @@
+pub mod Boots
 pub mod Counts
 pub mod Firmware
 pub mod Follows
