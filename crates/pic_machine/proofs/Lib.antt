@@ -1,7 +1,11 @@
 pub mod ArithmeticExamples
 pub mod BoundaryExamples
+pub mod ByteArithmetic
 pub mod ControlExamples
 pub mod HalfKnown
+pub mod LoadFacts
 pub mod RegisterExamples
+pub mod RisingWords
 pub mod RunExamples
 pub mod Settings
+pub mod StateFacts

@@ -1,5 +1,7 @@
 pub mod Boundary
 pub mod Chip
 pub mod Exec
+pub mod Memory
 pub mod Results
 pub mod Run
+pub mod State

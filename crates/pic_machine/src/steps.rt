@@ -1,4 +1,5 @@
 /// Why a step stopped: the word at the program counter is no instruction, or it is SLEEP.
+#[derive(Clone, Copy, Debug, PartialEq, Eq)]
 pub enum Why {
     UnknownWord,
     Sleep,
@@ -6,6 +7,7 @@ pub enum Why {
 
 /// What a step did: it took an interrupt, it ran the instruction `word` at `address`, or it stopped there.
 /// Addresses are in words of program memory, 0 to 1FFFh.
+#[derive(Clone, Copy, Debug, PartialEq, Eq)]
 pub enum Did {
     Took,
     Ran { address: u16, word: u16 },
@@ -13,6 +15,7 @@ pub enum Did {
 }
 
 /// A byte that an instruction wrote to a port, 0 for PORTA to 4 for PORTE: its whole result.
+#[derive(Clone, Copy, Debug, PartialEq, Eq)]
 pub struct PortWrite {
     pub port: u8,
     pub byte: u8,
@@ -21,6 +24,7 @@ pub struct PortWrite {
 /// What a step reports: which arriving sources were latched and which merged, as numbers whose bit i is the
 /// source with number i; what it did; the lowest address of the register that its instruction wrote as its
 /// destination; and what that put on a port.
+#[derive(Clone, Copy, Debug, PartialEq, Eq)]
 pub struct Stepped {
     pub latched: u16,
     pub merged: u16,

@@ -1,0 +1,104 @@
+//! The program `chip_speed STEPS`: a loop of mixed instructions runs on the chip for so many steps, with no
+//! arrivals, and then the number of steps, the program counter and W are printed. The time that this takes tells
+//! how fast the simulator is.
+#![tactic(auto)]
+
+ghost use Rattle.std.specs.Prelude.{◌≤◌, IfOk, length};
+ghost use Rattle.hex_file.specs.Written.{IsWritable};
+
+use anyhow::{Context, Result};
+use frp_tree::List;
+use hex_file::{Image, Word};
+use pic_isa::{Dest, Instr, encode};
+use pic_machine::Chip;
+use pic_regs::Start;
+use std::alloc::{AllocError, Global};
+use std::env;
+
+const INDF: u8 = 0x00;
+
+const STATUS: u8 = 0x03;
+
+const FSR: u8 = 0x04;
+
+const PORTB: u8 = 0x06;
+
+// Where the loop begins, and its subroutine.
+const LOOP: u16 = 2;
+
+const SUBROUTINE: u16 = 16;
+
+// The program: FSR is 40h, and the loop has arithmetic, tests that skip, a call, a register of bank 1, one
+// through FSR, and a port.
+fn program() -> [u16; 17] {
+    let f = Dest::F;
+    [
+        encode(&Instr::Movlw { k: 0x40 }),
+        encode(&Instr::Movwf { f: FSR }),
+        encode(&Instr::Movlw { k: 0x35 }),
+        encode(&Instr::Addwf { f: 0x20, d: f }),
+        encode(&Instr::Incf { f: 0x21, d: f }),
+        encode(&Instr::Btfss { f: 0x21, b: 0 }),
+        encode(&Instr::Rlf { f: 0x22, d: f }),
+        encode(&Instr::Xorwf {
+            f: 0x20,
+            d: Dest::W,
+        }),
+        encode(&Instr::Decfsz { f: 0x23, d: f }),
+        encode(&Instr::Call { k: SUBROUTINE }),
+        encode(&Instr::Bsf { f: STATUS, b: 5 }),
+        encode(&Instr::Movwf { f: 0x20 }),
+        encode(&Instr::Bcf { f: STATUS, b: 5 }),
+        encode(&Instr::Addwf { f: INDF, d: f }),
+        encode(&Instr::Movwf { f: PORTB }),
+        encode(&Instr::Goto { k: LOOP }),
+        encode(&Instr::Return),
+    ]
+}
+
+// The image of words from address 0 on, of which the low 14 bits count.
+fn image(alloc: Global, program: &[u16]) -> Result<Image, AllocError>
+    requires { length program.now ≤ 8192 }
+    ensures { IfOk result (λ image. IsWritable image) }
+{
+    let mut words = List::new(alloc);
+    for (address, word) in program.iter().enumerate() {
+        words.push(Word {
+            address: address as u16,
+            word: *word % 0x4000,
+        })?;
+    }
+    Ok(Image {
+        words,
+        config: None,
+        aside: List::new(alloc),
+    })
+}
+
+fn run(chip: &mut Chip, steps: u32) {
+    for _ in 0..steps {
+        let _ = chip.step(0x000);
+    }
+}
+
+fn main(rt: HostRuntime) -> Result<()> {
+    let word = env::args(&rt)?
+        .nth(1)
+        .context("the number of steps is missing")?;
+    let steps = word
+        .as_str()
+        .parse::<u32>()
+        .context("the number of steps is no number")?;
+    let image = image(rt.alloc(), &program())?;
+    let mut chip = Chip::power_on(
+        &image,
+        &Start {
+            ram: [0x00; 368],
+            w: 0x00,
+            flags: 0x00,
+        },
+    );
+    run(&mut chip, steps);
+    println!(rt; "steps {steps} pc {} w {}", chip.pc(), chip.w())?;
+    Ok(())
+}

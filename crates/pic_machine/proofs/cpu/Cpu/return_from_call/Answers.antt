@@ -1,0 +1,7 @@
+use Rattle.std.proofs.Common.{ap, ◌∙◌}
+use Rattle.pic_machine.specs.Chip.{popped}
+use Rattle.pic_machine.proofs.StateFacts.{leaves-done}
+use Rattle.pic_machine.proofs.cpu.Cpu.return_from_call.Goals as goal
+
+pub returns : goal.returns
+returns c = leaves-done c.no_effect.result _ _ c.no_effect.ensures (c.pop.ensures ∙ ap popped c.advance.ensures)

@@ -1,0 +1,5 @@
+use Rattle.pic_machine.proofs.ByteArithmetic.{low-bits}
+use Rattle.pic_machine.proofs.results.low_byte.Goals as goal
+
+pub returns : goal.returns
+returns c = low-bits c.args.number
