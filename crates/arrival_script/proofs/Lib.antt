@@ -6,4 +6,6 @@ pub mod FieldFacts
 pub mod ListFacts
 pub mod NameFacts
 pub mod ReadFacts
+pub mod SendFacts
 pub mod SourceFacts
+pub mod TraceFacts
