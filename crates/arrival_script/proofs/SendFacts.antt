@@ -1,16 +1,15 @@
 -- Text that is held back and sent piece by piece, and the text that is due.
-use Rattle.std.proofs.Common.{◌≡◌, ℕ, zero, suc, ◌+◌, ◌-◌, ◌<◌, Bool, true, false, List, [], ◌∷◌, ◌++◌, length, take, drop, Option, Some, None, Result, Ok, Err, refl, sym, ap, subst, ◌∙◌, inl, inr, add-one, arith, below_more}
+use Rattle.std.proofs.Common.{◌≡◌, ℕ, zero, suc, ◌+◌, ◌-◌, ◌<◌, Bool, true, false, List, [], ◌++◌, length, take, drop, Option, Some, None, Result, Ok, Err, refl, sym, ap, subst, ◌∙◌, inl, inr, add-one, arith, below_more}
 use Rattle.std.proofs.Math.Seq.{take-append_seam}
 use Rattle.std.proofs.lemmas.List.{append-nil, append_assoc, take-append-drop}
 use Rattle.edge_io.specs.Sinks.{Appends, AppendsFront}
 use Rattle.pic_machine.specs.Run.{Log}
-use Rattle.pic_machine.specs.declared.steps.Did.{Did}
 use Rattle.pic_machine.specs.declared.steps.Did.TheVariants.{Stopped}
 use Rattle.pic_machine.specs.declared.steps.Why.{Why}
 use Rattle.map_file.specs.declared.maps.Map.{Map}
 use Rattle.arrival_script.specs.declared.traces.TraceFault.{TraceFault}
 use Rattle.arrival_script.specs.declared.traces.TraceFault.TheVariants as fault
-use Rattle.arrival_script.specs.Trace.{step_lines, lines_of, end_line, trace_text, is_stop, GoesOn, StopsFirst, IsDue, Traces}
+use Rattle.arrival_script.specs.Trace.{step_lines, lines_of, end_line, trace_text, is_stop, GoesOn, IsDue, Traces}
 use Rattle.arrival_script.specs.Sends.{Sends, SendsFront, Adds, Flushes}
 
 pub appends-none : (o : Option (List ℕ)) → Appends o o []
@@ -54,24 +53,24 @@ adds-flush o new held all kept added (Err fault.Memory) e f = front-put o new he
 -- One after the other.
 pub sends-then : (a b c : Option (List ℕ)) (held kept last x y : List ℕ) → Sends a held b kept x → Sends b kept c last y → Sends a held c last (x ++ y)
 sends-then a b c held kept last x y p q = record {
-    sent = p.sent ++ q.sent;
-    appended = appends-join a b c p.sent q.sent p.appended q.appended;
-    split = sym (append_assoc held x y) ∙ ap (λ l. l ++ y) p.split ∙ append_assoc p.sent kept y ∙ ap (λ l. p.sent ++ l) q.split ∙ sym (append_assoc p.sent q.sent last);
-  }
+  sent = p.sent ++ q.sent;
+  appended = appends-join a b c p.sent q.sent p.appended q.appended;
+  split = sym (append_assoc held x y) ∙ ap (λ l. l ++ y) p.split ∙ append_assoc p.sent kept y ∙ ap (λ l. p.sent ++ l) q.split ∙ sym (append_assoc p.sent q.sent last);
+}
 
 pub sends-front : (a b c : Option (List ℕ)) (held kept x y : List ℕ) → Sends a held b kept x → SendsFront b kept c y → SendsFront a held c (x ++ y)
 sends-front a b c held kept x y p q = record {
-    sent = p.sent ++ q.sent;
-    rest = q.rest;
-    appended = appends-join a b c p.sent q.sent p.appended q.appended;
-    split = sym (append_assoc held x y) ∙ ap (λ l. l ++ y) p.split ∙ append_assoc p.sent kept y ∙ ap (λ l. p.sent ++ l) q.split ∙ sym (append_assoc p.sent q.sent q.rest);
-  }
+  sent = p.sent ++ q.sent;
+  rest = q.rest;
+  appended = appends-join a b c p.sent q.sent p.appended q.appended;
+  split = sym (append_assoc held x y) ∙ ap (λ l. l ++ y) p.split ∙ append_assoc p.sent kept y ∙ ap (λ l. p.sent ++ l) q.split ∙ sym (append_assoc p.sent q.sent q.rest);
+}
 
 -- A front of a text is one of a longer text.
 pub front-longer : (old new : Option (List ℕ)) (x more text : List ℕ) → SendsFront old [] new x → text ≡ x ++ more → AppendsFront old new text
 front-longer old new x more text p e =
     let spelled : take (length p.sent) text ≡ p.sent =
-        ap (take (length p.sent)) (e ∙ ap (λ l. l ++ more) p.split ∙ append_assoc p.sent p.rest more) ∙ take-append_seam p.sent (p.rest ++ more) in
+    ap (take (length p.sent)) (e ∙ ap (λ l. l ++ more) p.split ∙ append_assoc p.sent p.rest more) ∙ take-append_seam p.sent (p.rest ++ more) in
     (length p.sent, subst (Appends old new) (sym spelled) p.appended)
 
 -- All was sent.
@@ -127,6 +126,7 @@ step-fails m log n k old mid new kept last f inside goes sends adds = go f adds
   where
     front : SendsFront mid kept new (step_lines m k (log k)) → SendsFront old [] new (lines_of m log (k + 1))
     front added = subst (SendsFront old [] new) (sym (lines-more m log k)) (sends-front old mid new [] kept (lines_of m log k) (step_lines m k (log k)) sends added)
+
     go : (f : TraceFault) → Adds mid kept new last (step_lines m k (log k)) (Err f) → Traces m log n old new (Err f)
     go (fault.Stopped step address why) a = absurd a
     go fault.Failed a = traces-front m log n old new (lines_of m log (k + 1)) fault.Failed (due-behind m log k n inside goes) (front a) (λ step address why e. cc)
@@ -163,8 +163,10 @@ end-flushed m log n old mid new kept all last answer goes sends e flush = go ans
   where
     added : Sends old [] mid all (trace_text m log n)
     added = sends-then old mid mid [] kept all (lines_of m log n) (end_line m log n) sends (sends-kept mid kept all (end_line m log n) e)
+
     due : DueFrom m log n (trace_text m log n)
     due = record { more = []; due = inl (goes, append-nil (trace_text m log n)) }
+
     go : (a : Result (Unit {0}) TraceFault) → Flushes mid all new last a → Traces m log n old new a
     go (Ok done) f = (goes, whole-sent old mid new all (trace_text m log n) added f.0)
     go (Err (fault.Stopped step address why)) f = absurd f

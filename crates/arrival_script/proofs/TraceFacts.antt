@@ -48,11 +48,11 @@ pub quiet-step : (m : Map) (k : ℕ) (step : Step) (address word : ℕ) → numb
     → list_any (names_address address) m.events ≡ false → step_lines m k step ≡ []
 quiet-step m k step address word latched merged did port named =
     let opens : flat_map (open_line k step.did) m.events ≡ [] =
-        ap (λ d. flat_map (open_line k d) m.events) did
-        ∙ no-events address (λ e. address == e.«open») (λ e. step_line k (codes "open" ∷ e.name ∷ [])) m.events (λ e h. or_first (address == e.«open») (address == e.commit) h) named in
+    ap (λ d. flat_map (open_line k d) m.events) did
+    ∙ no-events address (λ e. address == e.«open») (λ e. step_line k (codes "open" ∷ e.name ∷ [])) m.events (λ e h. or_first (address == e.«open») (address == e.commit) h) named in
     let commits : flat_map (commit_line m k step.did step.after.regs) m.events ≡ [] =
-        ap (λ d. flat_map (commit_line m k d step.after.regs) m.events) did
-        ∙ no-events address (λ e. address == e.commit) (λ e. step_line k (codes "commit" ∷ e.name ∷ state_fields m step.after.regs)) m.events (λ e h. or_second (address == e.«open») (address == e.commit) h) named in
+    ap (λ d. flat_map (commit_line m k d step.after.regs) m.events) did
+    ∙ no-events address (λ e. address == e.commit) (λ e. step_line k (codes "commit" ∷ e.name ∷ state_fields m step.after.regs)) m.events (λ e h. or_second (address == e.«open») (address == e.commit) h) named in
     ap (λ set. arrival_lines k set step.merged ++ (take_line k step.did ++ (flat_map (open_line k step.did) m.events ++ (port_line k step.port ++ flat_map (commit_line m k step.did step.after.regs) m.events)))) (no-source step.latched latched)
     ∙ ap (λ set. arrival_lines k no_source set ++ (take_line k step.did ++ (flat_map (open_line k step.did) m.events ++ (port_line k step.port ++ flat_map (commit_line m k step.did step.after.regs) m.events)))) (no-source step.merged merged)
     ∙ ap (λ d. take_line k d ++ (flat_map (open_line k step.did) m.events ++ (port_line k step.port ++ flat_map (commit_line m k step.did step.after.regs) m.events))) did

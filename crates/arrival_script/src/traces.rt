@@ -1,4 +1,4 @@
-ghost use Rattle.std.specs.Prelude.{◌≡◌, ◌+◌, ◌<◌, ◌≤◌, ℕ, [], string_bytes, IsErrOf};
+ghost use Rattle.std.specs.Prelude.{◌≡◌, ◌+◌, ◌<◌, ◌≤◌, ℕ, max, false, string_bytes, IsErrOf, MatchOption};
 ghost use Rattle.edge_io.specs.Counts.{Rose};
 ghost use Rattle.hex_file.specs.Written.{IsWritable};
 ghost use Rattle.pic_regs.specs.Arrivals.{set_of};
@@ -8,7 +8,7 @@ ghost use Rattle.pic_machine.specs.Run.{run};
 ghost use Rattle.map_file.specs.MapRules.{IsMap};
 ghost use Rattle.arrival_script.specs.Scripts.{IsScript};
 ghost use Rattle.arrival_script.specs.Sends.{Adds, Flushes, RiseFrom};
-ghost use Rattle.arrival_script.specs.Trace.{Traces, set_at, sets_of, start_of, step_lines};
+ghost use Rattle.arrival_script.specs.Trace.{Traces, is_stop, set_at, sets_of, start_of, step_lines};
 
 use crate::lines::{is_quiet, write_end, write_step};
 use crate::scripts::{Arrival, Script};
@@ -77,9 +77,29 @@ fn next_arrivals(pending: &[Arrival], boundary: u32) -> (u16, &[Arrival])
     ensures later { (k : ℕ) → boundary < k → set_at result.1.now k ≡ set_at pending.now k }
     ensures rise { RiseFrom (boundary + 1) result.1.now }
 {
-    match pending {
-        [first, later @ ..] if first.at == boundary => (first.sources, later),
-        _ => (0, pending),
+    let [first, later @ ..] = pending else {
+        return (0, pending);
+    };
+    if first.at == boundary {
+        (first.sources, later)
+    } else {
+        (0, pending)
+    }
+}
+
+fn greater(a: u8, b: u8) -> u8
+    ensures { result ≡ max a b }
+{
+    if a < b { b } else { a }
+}
+
+// Where and why a step stopped.
+fn stop_of(did: Did) -> Option<(u16, Why)>
+    ensures { MatchOption result (is_stop did ≡ false) (λ stop. did ≡ Did.Stopped stop.0 stop.1) }
+{
+    match did {
+        Did::Stopped { address, why } => Some((address, why)),
+        Did::Took | Did::Ran { .. } => None,
     }
 }
 
@@ -146,9 +166,9 @@ pub fn trace<S: Sink>(
         let (arrivals, later) = next_arrivals(pending, step);
         pending = later;
         let report = chip.step(arrivals);
-        deepest = deepest.max(chip.depth());
+        deepest = greater(deepest, chip.depth());
         tell_step(alloc, &mut text, map, step, &report, chip.regs(), out)?;
-        if let Did::Stopped { address, why } = report.did {
+        if let Some((address, why)) = stop_of(report.did) {
             flush(alloc, &mut text, out)?;
             return Err(TraceFault::Stopped { step, address, why });
         }

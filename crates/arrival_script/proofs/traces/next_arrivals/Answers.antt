@@ -1,5 +1,6 @@
+use Rattle.arrival_script.proofs.RunFacts.{later-pending}
 use Rattle.arrival_script.proofs.traces.next_arrivals.Goals as goal
-use Rattle.arrival_script.proofs.traces.next_arrivals.Goals.{in_default-via-then-pending-lt1, in_default-via-in-len1-up+else-first-boundary}
 
-pub returns-in_default-clause-set : goal.returns-in_default-clause-set
-returns-in_default-clause-set c = elim c.in_default.branch [ in_default-via-then-pending-lt1 w ↦ ? | in_default-via-in-len1-up+else-first-boundary w ↦ ? ]
+pub returns-else-first-boundary-clause-set : goal.returns-else-first-boundary-clause-set
+returns-else-first-boundary-clause-set c =
+    later-pending c.args.pending.now c.args.boundary (record { at = 0; sources = 0 }) c.requires c.in-len1-up.len_at_least c.if-first-boundary.false
