@@ -1,7 +1,7 @@
 //! Scripts of arriving sources, and the trace of a firmware image under a script.
 //!
 //! Contracts see a script's text as its lines' fields: which script it states, and the first line with a fault and
-//! its cause.
+//! its cause; and a trace as a text over the defined run. The tool stands on this crate.
 #![tactic(auto)]
 
 mod drafts;
