@@ -12,6 +12,7 @@ use Rattle.pic_machine.specs.Chip.{Chip}
 use Rattle.pic_machine.specs.Boundary.{boundary}
 use Rattle.pic_machine.specs.Run.{Log, run, after, power_on, program_of, arrivals_of}
 use Rattle.pic_machine.specs.State.{chip_of, memory_of}
+use Rattle.pic_machine.specs.Dids.{is_stop}
 use Rattle.map_file.specs.declared.maps.Map.{Map}
 use Rattle.arrival_script.specs.declared.scripts.Arrival.{Arrival}
 use Rattle.arrival_script.specs.declared.scripts.Script.{Script}
@@ -22,7 +23,7 @@ use Rattle.arrival_script.specs.Sends.{RiseFrom, Sends, SendsFront, Adds}
 use Rattle.std.specs.Fmt.{decimal}
 use Rattle.pic_regs.specs.Registers.{Registers}
 use Rattle.map_file.specs.MapText.{line}
-use Rattle.arrival_script.specs.Trace.{Traces, end_line, state_fields, start_of, set_at, sets_of, lines_of, step_lines, registers_after, deepest, is_stop, GoesOn}
+use Rattle.arrival_script.specs.Trace.{Traces, end_line, state_fields, start_of, set_at, sets_of, lines_of, step_lines, registers_after, deepest, GoesOn}
 use Rattle.arrival_script.proofs.SourceFacts.{set_of-zero}
 use Rattle.arrival_script.proofs.SendFacts.{sends-none, sends-then, goes-more, lines-more}
 

@@ -6,10 +6,11 @@ use Rattle.edge_io.specs.Sinks.{Appends, AppendsFront}
 use Rattle.pic_machine.specs.Run.{Log}
 use Rattle.pic_machine.specs.declared.steps.Did.TheVariants.{Stopped}
 use Rattle.pic_machine.specs.declared.steps.Why.{Why}
+use Rattle.pic_machine.specs.Dids.{is_stop}
 use Rattle.map_file.specs.declared.maps.Map.{Map}
 use Rattle.arrival_script.specs.declared.traces.TraceFault.{TraceFault}
 use Rattle.arrival_script.specs.declared.traces.TraceFault.TheVariants as fault
-use Rattle.arrival_script.specs.Trace.{step_lines, lines_of, end_line, trace_text, is_stop, GoesOn, IsDue, Traces}
+use Rattle.arrival_script.specs.Trace.{step_lines, lines_of, end_line, trace_text, GoesOn, IsDue, Traces}
 use Rattle.arrival_script.specs.Sends.{Sends, SendsFront, Adds, Flushes}
 
 pub appends-none : (o : Option (List ℕ)) → Appends o o []

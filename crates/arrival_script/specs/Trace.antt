@@ -18,6 +18,7 @@ use Rattle.pic_machine.specs.declared.steps.Did.TheVariants.{Took, Ran, Stopped}
 use Rattle.pic_machine.specs.declared.steps.PortWrite.{PortWrite}
 use Rattle.pic_machine.specs.Boundary.{Step}
 use Rattle.pic_machine.specs.Run.{Log}
+use Rattle.pic_machine.specs.Dids.{is_run_at, is_stop}
 use Rattle.map_file.specs.declared.maps.MapEvent.{MapEvent}
 use Rattle.map_file.specs.declared.maps.MapState.{MapState}
 use Rattle.map_file.specs.declared.maps.Map.{Map}
@@ -60,12 +61,6 @@ abbrev pub take_line : ℕ → Did → List ℕ
 take_line k Took = step_line k (codes "take" ∷ [])
 take_line k (Ran address word) = []
 take_line k (Stopped address why) = []
-
--- The instruction at an address ran.
-abbrev pub is_run_at : ℕ → Did → Bool
-is_run_at address Took = false
-is_run_at address (Ran at word) = at == address
-is_run_at address (Stopped at why) = false
 
 -- The line of an event whose open address ran.
 abbrev pub open_line : ℕ → Did → MapEvent → List ℕ
@@ -127,11 +122,6 @@ abbrev pub trace_text : Map → Log → ℕ → List ℕ
 trace_text m log n = lines_of m log n ++ end_line m log n
 
 -- No step before n stopped.
-abbrev pub is_stop : Did → Bool
-is_stop Took = false
-is_stop (Ran address word) = false
-is_stop (Stopped address why) = true
-
 abbrev pub GoesOn : Log → ℕ → Type 0
 GoesOn log n = (k : ℕ) → k < n → is_stop (log k).did ≡ false
 

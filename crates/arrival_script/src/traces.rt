@@ -5,10 +5,11 @@ ghost use Rattle.pic_regs.specs.Arrivals.{set_of};
 ghost use Rattle.pic_regs.specs.State.{registers_of};
 ghost use Rattle.pic_machine.specs.Boundary.{Step, stepped};
 ghost use Rattle.pic_machine.specs.Run.{run};
+ghost use Rattle.pic_machine.specs.Dids.{is_stop};
 ghost use Rattle.map_file.specs.MapRules.{IsMap};
 ghost use Rattle.arrival_script.specs.Scripts.{IsScript};
 ghost use Rattle.arrival_script.specs.Sends.{Adds, Flushes, RiseFrom};
-ghost use Rattle.arrival_script.specs.Trace.{Traces, is_stop, set_at, sets_of, start_of, step_lines};
+ghost use Rattle.arrival_script.specs.Trace.{Traces, set_at, sets_of, start_of, step_lines};
 
 use crate::lines::{is_quiet, write_end, write_step};
 use crate::scripts::{Arrival, Script};

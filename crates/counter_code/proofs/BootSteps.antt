@@ -12,10 +12,10 @@ use Rattle.pic_machine.specs.Chip.{Chip}
 use Rattle.pic_machine.specs.Results.{shown, written}
 use Rattle.pic_machine.specs.Boundary.{Step}
 use Rattle.pic_machine.proofs.TurnFacts.{running}
+use Rattle.pic_machine.specs.Dids.{is_taking, is_run_at, is_stop}
 use Rattle.counter_code.specs.declared.counters.Counter.{Counter}
 use Rattle.counter_code.specs.Layout.{is_peripheral, state_byte}
-use Rattle.stack_bound.specs.Counts.{is_taking, is_run_at, interrupts_on}
-use Rattle.stack_bound.specs.Firmware.{is_stop}
+use Rattle.stack_bound.specs.Counts.{interrupts_on}
 use Rattle.counter_code.proofs.Spots.{Kind, HighSetup, Spot, LoadsInit, StoresInit, LoadsSetup, StoresSetup, ChoosesHigh, EnablesHigh, ChoosesLow, Enables, TurnsOn, Jumps, At, byte_of, instruction, kind_of}
 
 -- PIE1, PIE2 and the enables in INTCON, with the source's alone.

@@ -12,13 +12,13 @@ use Rattle.pic_machine.specs.Chip.{Chip}
 use Rattle.pic_machine.specs.Boundary.{Step, boundary}
 use Rattle.pic_machine.specs.Run.{program_of}
 use Rattle.pic_machine.proofs.TurnFacts.{flag-latched}
+use Rattle.pic_machine.specs.Dids.{is_taking, is_run_at, is_stop}
 use Rattle.counter_code.specs.declared.counters.Counter.{Counter}
 use Rattle.counter_code.specs.Counters.{IsCounter}
 use Rattle.counter_code.specs.Layout.{state_byte, is_peripheral, image_of, ready_address, open_address, commit_address}
-use Rattle.stack_bound.specs.Counts.{is_taking, is_run_at, ran_at, interrupts_on, latches, clears, put_by}
+use Rattle.stack_bound.specs.Counts.{ran_at, interrupts_on, latches, clears, put_by}
 use Rattle.stack_bound.specs.Counts as counts
 use Rattle.stack_bound.specs.MapNames.{byte_at}
-use Rattle.stack_bound.specs.Firmware.{is_stop}
 use Rattle.stack_bound.specs.Urgent.{is_heard}
 use Rattle.counter_code.proofs.Story.{Place, Rests, Clears, Opens, Commits, rests, is_clearing, is_opening, is_committing, next, event_in_map, value_after, puts_at}
 use Rattle.counter_code.proofs.Spots.{Kind, NoSetup, LowSetup, HighSetup, kind_of, ready_at, ready_is}

@@ -15,11 +15,11 @@ use Rattle.pic_machine.specs.Results.{shown, written}
 use Rattle.pic_machine.specs.Exec.{field, operand}
 use Rattle.pic_machine.specs.Boundary.{Step}
 use Rattle.pic_machine.proofs.TurnFacts.{running, taking}
+use Rattle.pic_machine.specs.Dids.{is_taking, is_run_at, is_stop}
 use Rattle.counter_code.specs.declared.counters.Counter.{Counter}
 use Rattle.counter_code.specs.Layout.{state_byte, ready_address}
-use Rattle.stack_bound.specs.Counts.{is_taking, is_run_at, interrupts_on}
+use Rattle.stack_bound.specs.Counts.{interrupts_on}
 use Rattle.stack_bound.specs.Urgent.{is_heard}
-use Rattle.stack_bound.specs.Firmware.{is_stop}
 use Rattle.counter_code.proofs.Story.{Place, Rests, Clears, Loads, Adds, Opens, Commits, Returns, rests, next, event_in_map}
 use Rattle.counter_code.proofs.Spots.{instruction_at}
 use Rattle.counter_code.proofs.BootSteps.{pie1_of, pie2_of, intcon_with}

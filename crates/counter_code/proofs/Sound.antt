@@ -12,6 +12,7 @@ use Rattle.pic_regs.specs.Arrivals.{Sources}
 use Rattle.pic_regs.proofs.SetupRegisters.{Suits}
 use Rattle.pic_machine.specs.Chip.{Chip}
 use Rattle.pic_machine.specs.Run.{Log, program_of, power_on, arrivals_of}
+use Rattle.pic_machine.specs.Dids.{is_stop}
 use Rattle.counter_code.specs.declared.counters.Counter.{Counter}
 use Rattle.counter_code.specs.declared.counters.SetupAt.{SetupAt}
 use Rattle.counter_code.specs.Counters as programs
@@ -23,7 +24,6 @@ use Rattle.stack_bound.specs.MapNames.{byte_at}
 use Rattle.stack_bound.specs.Ready.{BeforeReady}
 use Rattle.stack_bound.specs.Boots.{FlagsStay}
 use Rattle.stack_bound.specs.Setups.{SetupsStand, last_setup}
-use Rattle.stack_bound.specs.Firmware.{is_stop}
 use Rattle.stack_bound.proofs.Heard.{chip_after_is_of_the_run}
 use Rattle.counter_code.proofs.Story.{Place, Rests, past, Story}
 use Rattle.counter_code.proofs.Spots.{byte_of}

@@ -93,7 +93,7 @@ commit_bytes p = state_bytes p + length p.outputs
 abbrev pub body : ProgramTree → List ℕ → ℕ
 body p event = sum_by (weight p) (needed p event)
 
--- In steps: the longest stretch with interrupts off, and the boot.
+-- In steps: the longest stretch with interrupts off; and the boot, to which two more come up to the ready boundary.
 abbrev pub off : ProgramTree → ℕ
 off p = 80 + 16 * length p.events + 6 * commit_bytes p
 

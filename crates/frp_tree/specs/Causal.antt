@@ -15,7 +15,7 @@ needed_by x (Now e) = filter (λ y. not (bytes_eq x y)) (names_in e)
 needed_by x (Later e) = []
 needed_by x Stays = []
 
--- Those that the definition x needs on an event. No definition of the name needs nothing.
+-- Those that the definition x needs on an event. A name that no definition has needs nothing.
 abbrev pub needs_on : ProgramTree → List ℕ → List ℕ → List (List ℕ)
 needs_on p event x = elim (decl_named p.decls x) [ Some d ↦ needed_by x (rule_on event d.behaviour) | None ↦ [] ]
 

@@ -9,7 +9,7 @@ use Rattle.hex_file.specs.declared.faults.HexFault.{HexFault}
 use Rattle.hex_file.specs.declared.faults.HexFault.TheVariants.{BadChar, BadLength, BadSum, BadType, OutOfRange, Clash, NoEnd, AfterEnd, Memory}
 use Rattle.hex_file.specs.declared.images.Image.{Image}
 
--- The bytes that digits spell, two digits each.
+-- The bytes that digits spell, two digits each. A last odd digit spells nothing.
 abbrev pub spelled_bytes : List ℕ → List ℕ
 spelled_bytes [] = []
 spelled_bytes (high ∷ []) = []
@@ -23,7 +23,7 @@ bytes_of line = spelled_bytes (drop 1 line)
 abbrev pub told_length : List ℕ → ℕ
 told_length bytes = slice_index bytes 0
 
--- The record of a line's bytes, which are as many as the first tells.
+-- The record of a line's bytes, whose data are as many as the first tells.
 abbrev pub record_in : List ℕ → HexRecord
 record_in bytes =
     record {
@@ -52,9 +52,11 @@ abbrev pub has_bad_length : List ℕ → Bool
 has_bad_length line =
     let bytes = bytes_of line in length (drop 1 line) % 2 == 1 || nat_lt (length bytes) 5 || not (length bytes == told_length bytes + 5)
 
+-- The check byte isn't the right one.
 abbrev pub has_bad_sum : List ℕ → Bool
 has_bad_sum bytes = not (got_sum bytes == want_sum bytes)
 
+-- The type isn't 00 to 05.
 abbrev pub has_bad_type : HexRecord → Bool
 has_bad_type r = nat_lt 5 r.kind
 

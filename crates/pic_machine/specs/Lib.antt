@@ -1,5 +1,6 @@
 pub mod Boundary
 pub mod Chip
+pub mod Dids
 pub mod Exec
 pub mod Memory
 pub mod Results

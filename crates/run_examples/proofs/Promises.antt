@@ -7,10 +7,11 @@ use Rattle.map_file.specs.MapRules.{IsMap}
 use Rattle.counter_code.specs.Maps as maps
 use Rattle.stack_bound.specs.Counts.{count, latched_count, cleared_count, commit_count, flag_after}
 use Rattle.stack_bound.specs.MapNames.{is_listed}
-use Rattle.stack_bound.specs.Firmware.{Names, Reports, count_below, may_be_written, is_at, is_stop}
+use Rattle.stack_bound.specs.Firmware.{Names, Reports, count_below, may_be_written, is_at}
 use Rattle.stack_bound.specs.Once.{Once, Waits, GoesOn}
 use Rattle.stack_bound.specs.Settled.{Settled}
 use Rattle.run_examples.proofs.Counting.{program, image, counter_map, tick_event, two_ticks}
+use Rattle.pic_machine.specs.Dids.{is_stop}
 
 abbrev range : ℕ → ℕ → Range
 range first last = record { from = first; to = last }

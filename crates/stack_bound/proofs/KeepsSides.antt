@@ -5,9 +5,10 @@ use Rattle.pic_machine.specs.declared.steps.Did.TheVariants.{Stopped}
 use Rattle.pic_machine.specs.declared.steps.Why.TheVariants as why
 use Rattle.pic_machine.specs.Boundary.{Step}
 use Rattle.pic_machine.specs.Run.{Log}
+use Rattle.pic_machine.specs.Dids.{is_stop}
 use Rattle.stack_bound.specs.MapNames.{is_listed}
 use Rattle.stack_bound.specs.Counts.{chip_after}
-use Rattle.stack_bound.specs.Firmware.{Keeps, is_stop}
+use Rattle.stack_bound.specs.Firmware.{Keeps}
 use Rattle.stack_bound.proofs.Stories.{chip, counting, counting_map}
 use Rattle.stack_bound.proofs.GoodLog.{returns, is_taken, clears_flag, opens_tick, commits_tick, rests}
 use Rattle.stack_bound.proofs.Booted.{booted}

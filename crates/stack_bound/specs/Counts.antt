@@ -9,6 +9,7 @@ use Rattle.pic_machine.specs.declared.steps.PortWrite.{PortWrite}
 use Rattle.pic_machine.specs.Chip.{Chip}
 use Rattle.pic_machine.specs.Boundary.{Step}
 use Rattle.pic_machine.specs.Run.{Log}
+use Rattle.pic_machine.specs.Dids.{is_taking, is_run_at}
 use Rattle.map_file.specs.declared.maps.MapEvent.{MapEvent}
 use Rattle.map_file.specs.declared.maps.Map.{Map}
 
@@ -22,24 +23,12 @@ abbrev pub count : Log → (Step → Bool) → ℕ → ℕ
 count log test zero = 0
 count log test (suc n) = count log test n + one_if (test (log n))
 
--- A step took an interrupt.
-abbrev pub is_taking : Did → Bool
-is_taking Took = true
-is_taking (Ran address word) = false
-is_taking (Stopped address why) = false
-
 abbrev pub takes : Step → Bool
 takes step = is_taking step.did
 
 -- GIE is on at a boundary: after its arrivals and before its step.
 abbrev pub interrupts_on : Step → Bool
 interrupts_on step = step.arrived.regs.intcon.b7
-
--- The instruction at an address ran.
-abbrev pub is_run_at : ℕ → Did → Bool
-is_run_at address Took = false
-is_run_at address (Ran at word) = at == address
-is_run_at address (Stopped at why) = false
 
 abbrev pub ran_at : ℕ → Step → Bool
 ran_at address step = is_run_at address step.did

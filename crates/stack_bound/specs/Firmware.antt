@@ -17,6 +17,7 @@ use Rattle.pic_regs.specs.Arrivals.{Sources}
 use Rattle.pic_machine.specs.declared.steps.Did.{Did}
 use Rattle.pic_machine.specs.declared.steps.Did.TheVariants.{Took, Ran, Stopped}
 use Rattle.pic_machine.specs.Run.{Log, arrivals_of, run}
+use Rattle.pic_machine.specs.Dids.{is_stop}
 use Rattle.hex_file.specs.declared.images.Image.{Image}
 use Rattle.hex_file.specs.Written.{IsWritable, written}
 use Rattle.hex_file.specs.ImageOf.{IsImageOf}
@@ -65,7 +66,7 @@ abbrev pub typed_decl : DeclTree → List ℕ × Ty
 typed_decl d = (d.name, d.ty)
 
 -- The map's events, states and outputs are the program's, in declaration order. The code addresses that it names differ and
--- have words in the image. The states' bytes are listed, and differ in bytes of general RAM outside 70h to 7Fh.
+-- have words in the image. The states' bytes are distinct bytes of general RAM outside 70h to 7Fh, and are listed.
 pub record Names (p : ProgramTree) (image : Image) (m : Map) : Type 0 where
   pub events : map event_of m.events ≡ p.events
   pub states : map typed_state m.states ≡ map typed_decl (filter (λ d. not (is_plain d.behaviour)) p.decls)
@@ -81,8 +82,8 @@ unfoldable pub count_below : ℕ → (ℕ → Bool) → ℕ
 count_below zero test = 0
 count_below (suc n) test = one_if (test n) + count_below n test
 
--- What the map reports: the number of the image's words, that of the listed bytes of general RAM outside 70h to 7Fh, each at
--- most the program's bound, and so the steps in which it settles; and a depth of at most 8 and of twice the levels.
+-- What the map reports: the number of the image's words, and that of the listed bytes of general RAM outside 70h to 7Fh, each
+-- at most the program's bound; the steps in which it settles, at most theirs; and a depth of at most 8 and of twice the levels.
 pub record Reports (p : ProgramTree) (image : Image) (m : Map) : Type 0 where
   pub words : m.words ≡ length image.words
   pub words_bounded : m.words ≤ words_bound p
@@ -96,6 +97,7 @@ pub record Reports (p : ProgramTree) (image : Image) (m : Map) : Type 0 where
 abbrev pub is_control : ℕ → Bool
 is_control a = a == 0x003 || a == 0x00A || a == 0x002 || a == 0x00B || a == 0x00C || a == 0x00D || a == 0x08C || a == 0x08D
 
+-- The address is this one, and that of this port.
 abbrev pub is_at : ℕ → Option ℕ → Bool
 is_at a None = false
 is_at a (Some b) = a == b
@@ -113,14 +115,9 @@ may_be_written p a =
 abbrev pub ListsRightly : ProgramTree → Map → Type 0
 ListsRightly p m = (a : ℕ) → a < 512 → is_listed m a ≡ true → (canonical a ≡ Some a) × (may_be_written p a ≡ true)
 
--- A step stops the machine.
-abbrev pub is_stop : Did → Bool
-is_stop Took = false
-is_stop (Ran address word) = false
-is_stop (Stopped address why) = true
-
--- Over the first n steps the log follows the program, each once and urgent; what is set up stands, and the boot clears no
--- flag; none stops, each writes a listed register where it writes one, and the depth is at most the map's.
+-- Over the first n steps the log follows the program and is urgent; what is set up stands, and the boot clears no flag; no
+-- step stops, each writes a listed register where it writes one, and the depth is at most the map's. After them each latch
+-- has been treated once.
 pub record Keeps (p : ProgramTree) (m : Map) (log : Log) (n : ℕ) : Type 0 where
   pub follows : Follows p m log n
   pub setups : SetupsStand p m log n

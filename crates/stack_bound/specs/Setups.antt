@@ -10,7 +10,7 @@ use Rattle.stack_bound.specs.MapNames.{byte_at}
 use Rattle.stack_bound.specs.Counts.{chip_after}
 use Rattle.stack_bound.specs.Ready.{ReadyAt}
 
--- The byte that a setup gives to the register at a data address, where it names that.
+-- The byte that a setup gives to the register whose lowest address this is, where it names that.
 abbrev pub setup_byte : Setup → ℕ → Option ℕ
 setup_byte s a = elim (register_at s.register) [ Some at ↦ (if at == a then Some s.byte else None) | None ↦ None ]
 

@@ -4,9 +4,10 @@ use Rattle.pic_machine.specs.declared.steps.Stepped.{Stepped}
 use Rattle.pic_machine.specs.Chip.{Chip}
 use Rattle.pic_machine.specs.Boundary.{Step, stepped}
 use Rattle.pic_machine.specs.Run.{power_on}
+use Rattle.pic_machine.specs.Dids.{is_stop}
 use Rattle.arrival_script.specs.declared.traces.TraceFault.TheVariants as fault
 use Rattle.arrival_script.specs.Sends.{Sends}
-use Rattle.arrival_script.specs.Trace.{lines_of, is_stop, GoesOn, deepest}
+use Rattle.arrival_script.specs.Trace.{lines_of, GoesOn, deepest}
 use Rattle.arrival_script.proofs.SendFacts.{step-fails, stop-fails, stop-told, end-fails, end-flushed}
 use Rattle.arrival_script.proofs.RunFacts.{Running, log_of, chip_at, running-none, running-more, sent-more, step-is, registers-after, end-is, traces-error}
 use Rattle.arrival_script.proofs.traces.trace.Goals as goal
