@@ -8,10 +8,10 @@ use Rattle.map_file.specs.declared.maps.MapEvent.{MapEvent}
 use Rattle.map_file.specs.MapRules.{IsMap, IsEvent, IsState, RangesRise}
 use Rattle.map_file.proofs.Examples.{range, state, counter, empty, wide, flag, full}
 
-counter_keeps_the_rules : IsMap counter
+pub counter_keeps_the_rules : IsMap counter
 counter_keeps_the_rules = search (arith)
 
-empty_keeps_the_rules : IsMap empty
+pub empty_keeps_the_rules : IsMap empty
 empty_keeps_the_rules = search (arith)
 
 wide_keeps_the_rules : IsMap wide

@@ -1,7 +1,7 @@
-ghost use Rattle.std.specs.Prelude.{◌≡◌, IfOk};
+ghost use Rattle.std.specs.Prelude.{◌≡◌, ◌<◌, ◌^◌, length, vec_len, IfOk};
 ghost use Rattle.map_file.specs.MapRules.{IsMap};
 
-use crate::{Map, MapEvent, MapState, Range, write};
+use crate::{Map, MapEvent, MapFault, MapState, Range, read, write};
 use frp_tree::{List, Text, Ty};
 use pic_isa::Source;
 use std::alloc::{AllocError, Global};
@@ -93,5 +93,96 @@ fn writes_each_kind_of_line(rt: HostRuntime) -> Result<(), Fail> {
         regs 020-07F\n\
         report depth 2 ram 56 words 1742 settle 6546\n";
     assert_eq!(rt; text.as_slice(), expected.as_bytes());
+    Ok(())
+}
+
+const COUNTER: &[u8] = b"efrp map 1\n\
+    event Tick INT 1 open 0041 commit 1A47\n\
+    state n u8 020\n\
+    output PORTB\n\
+    ready 002F\n\
+    regs 006-00B\n\
+    regs 020-07F\n\
+    report depth 1 ram 11 words 72 settle 586\n";
+
+#[test]
+fn reads_back(rt: HostRuntime) -> Result<(), Fail> {
+    let map = read(rt.alloc(), COUNTER)?;
+    let text = write(rt.alloc(), &map)?;
+    assert_eq!(rt; text.as_slice(), COUNTER);
+    let wide = read(
+        rt.alloc(),
+        b"efrp map 1\nstate a u16 16F 190\nready 0000\nreport depth 0 ram 0 words 0 settle 4294967295\n",
+    )?;
+    assert_eq!(rt; wide.settle, 4_294_967_295);
+    Ok(())
+}
+
+fn fault_of(alloc: Global, bytes: &[u8]) -> Option<MapFault>
+    requires { length bytes.now < 2 ^ 32 }
+{
+    read(alloc, bytes).err()
+}
+
+#[test]
+fn first_faulty_lines(rt: HostRuntime) {
+    let version = fault_of(rt.alloc(), b"efrp map 2\nready 0000\n");
+    assert_eq!(rt; version, Some(MapFault::Line(1)));
+    let carriage = fault_of(rt.alloc(), b"efrp map 1\r\nready 0000\r\n");
+    assert_eq!(rt; carriage, Some(MapFault::Line(1)));
+    let missing = fault_of(rt.alloc(), b"efrp map 1\nready 0000\n");
+    assert_eq!(rt; missing, Some(MapFault::Line(3)));
+    let unended = fault_of(
+        rt.alloc(),
+        b"efrp map 1\nready 0000\nreport depth 0 ram 0 words 0 settle 0",
+    );
+    assert_eq!(rt; unended, Some(MapFault::Line(3)));
+    let touching = fault_of(
+        rt.alloc(),
+        b"efrp map 1\nready 0000\nregs 000-005\nregs 006-007\n",
+    );
+    assert_eq!(rt; touching, Some(MapFault::Line(4)));
+    let more = fault_of(
+        rt.alloc(),
+        b"efrp map 1\nready 0000\nreport depth 0 ram 0 words 0 settle 0\n\n",
+    );
+    assert_eq!(rt; more, Some(MapFault::Line(4)));
+}
+
+#[test]
+fn each_cut_is_a_fault(rt: HostRuntime) {
+    for end in 0..COUNTER.len() {
+        let fault = fault_of(rt.alloc(), &COUNTER[..end]);
+        assert!(rt; matches!(fault, Some(MapFault::Line(_))));
+    }
+}
+
+fn changed(alloc: Global, bytes: &[u8], place: usize, byte: u8) -> Result<Vec<u8>, AllocError>
+    ensures { IfOk result (λ copy. vec_len copy ≡ length bytes.now) }
+{
+    let mut copy = Vec::from_slice(alloc, bytes)?;
+    if place < copy.len() {
+        copy[place] = byte;
+    }
+    Ok(copy)
+}
+
+fn changes_are_answered(alloc: Global, bytes: &[u8], place: usize) -> Result<bool, AllocError>
+    requires { length bytes.now < 2 ^ 32 }
+{
+    let mut answered = true;
+    for byte in 0..=255 {
+        let copy = changed(alloc, bytes, place, byte)?;
+        let fault = fault_of(alloc, copy.as_slice());
+        answered = answered && !matches!(fault, Some(MapFault::Memory));
+    }
+    Ok(answered)
+}
+
+#[test]
+fn each_changed_byte_is_answered(rt: HostRuntime) -> Result<(), Fail> {
+    for place in 0..COUNTER.len() {
+        assert!(rt; changes_are_answered(rt.alloc(), COUNTER, place)?);
+    }
     Ok(())
 }

@@ -1,0 +1,329 @@
+-- What a draft of a map says of the entries read so far.
+use Rattle.std.proofs.Common.{◌≡◌, ◌≢◌, ℕ, ◌+◌, ◌<◌, ◌≤◌, Bool, true, false, not, ◌&&◌, ◌==◌, nat_lt, nat_le, List, [], ◌∷◌, ◌++◌, length, map, Option, Some, None, option_and_then, ◌⊎◌, inl, inr, refl, sym, ap, subst, ◌∙◌, arith, lit<, lit≤}
+use Rattle.std.specs.List.{filter_map, list_all, AllByRecursion}
+use Rattle.std.specs.Map.{lookup}
+use Rattle.std.specs.Str.{bytes_eq}
+use Rattle.std.proofs.lemmas.Bool.{and_parts, and_from, false≢true, ltb-true, lt-ltb, leb-true, le-leb, not-true, not-false, eqb-true, eq-eqb, both_ways}
+use Rattle.std.proofs.lemmas.List.{append_assoc, append-nil, map-append, length-append}
+use Rattle.std.proofs.lemmas.List.Elements.{filter_map-append}
+use Rattle.std.proofs.lemmas.Slice.Eq.{bytes_eq-Decides}
+use Rattle.pic_isa.specs.declared.sources.Source.{Source}
+use Rattle.pic_isa.specs.declared.sources.Source.TheVariants as source
+use Rattle.pic_isa.specs.Sources.{source_number}
+use Rattle.map_file.specs.declared.maps.MapEvent.{MapEvent}
+use Rattle.map_file.specs.declared.maps.MapState.{MapState}
+use Rattle.map_file.specs.declared.maps.Range.{Range}
+use Rattle.map_file.specs.declared.maps.Map.{Map}
+use Rattle.map_file.specs.declared.drafts.Draft.{Draft}
+use Rattle.map_file.specs.declared.entries.Entry.{Entry}
+use Rattle.map_file.specs.declared.entries.Entry.TheVariants as entry
+use Rattle.map_file.specs.declared.entries.Section.{Section}
+use Rattle.map_file.specs.declared.entries.Section.TheVariants as section
+use Rattle.map_file.specs.MapRules.{IsMap, IsEvent, IsState, AllDiffer, RangesRise}
+use Rattle.map_file.specs.Entries.{section_after, entries_of, report_of, IsEntry, IsRange}
+use Rattle.map_file.specs.Drafts.{admits, with_entry, lowest_with, Added, events_differ, states_differ, has_room_for_event, has_room_for_state, empty_map, empty_draft}
+use Rattle.map_file.proofs.FieldCuts.{all_append}
+use Rattle.map_file.proofs.EntryOrder.{run, run-append, out_of_order, event_in, state_in, output_in, range_in, events_of, states_of, outputs_of, ranges_of}
+
+-- Names and sources that differ.
+
+differ_push : {A B : Type 0} (f : A → B) (xs : List A) (x : A) → AllDiffer f xs → AllByRecursion (λ y. f x ≢ f y) xs → AllDiffer f (xs ++ x ∷ [])
+differ_push f [] x h k = (tt, tt)
+differ_push f (y ∷ ys) x h k = (all_append (λ z. f z ≢ f y) ys (x ∷ []) h.0 (k.0, tt), differ_push f ys x h.1 k.1)
+
+all_front : {A : Type 0} (P : A → Type 0) (xs : List A) (x : A) (more : List A) → AllByRecursion P (xs ++ x ∷ more) → P x
+all_front P [] x more h = h.0
+all_front P (y ∷ ys) x more h = all_front P ys x more h.1
+
+differ_front : {A B : Type 0} (f : A → B) (xs : List A) (x : A) (more : List A) → AllDiffer f (xs ++ x ∷ more) → AllByRecursion (λ y. f x ≢ f y) xs
+differ_front f [] x more h = tt
+differ_front f (y ∷ ys) x more h = (all_front (λ z. f z ≢ f y) ys x more h.0, differ_front f ys x more h.1)
+
+names_apart : (a b : List ℕ) → not (bytes_eq a b) ≡ true → b ≢ a
+names_apart a b h e = both_ways (bytes_eq a b) (not-true (bytes_eq a b) h) ((bytes_eq-Decides a b).1 (sym e))
+
+names_differ : (a b : List ℕ) → b ≢ a → not (bytes_eq a b) ≡ true
+names_differ a b h = go (bytes_eq a b) refl
+  where
+    go : (t : Bool) → bytes_eq a b ≡ t → not t ≡ true
+    go false e = refl
+    go true e = absurd (h (sym ((bytes_eq-Decides a b).0 e)))
+
+sources_apart : (a b : Source) → not (source_number a == source_number b) ≡ true → b ≢ a
+sources_apart a b h e = both_ways (source_number a == source_number b) (not-true (source_number a == source_number b) h) (eq-eqb (source_number a) (source_number b) (ap source_number (sym e)))
+
+abbrev sources : List (ℕ × Source)
+sources =
+    (0, source.T0) ∷ (1, source.Int) ∷ (2, source.Psp) ∷ (3, source.Ad) ∷ (4, source.Ssp) ∷ (5, source.Ccp1)
+    ∷ (6, source.Tmr2) ∷ (7, source.Tmr1) ∷ (8, source.Ee) ∷ (9, source.Bcl) ∷ (10, source.Ccp2) ∷ []
+
+abbrev source_at : ℕ → Option Source
+source_at n = lookup (λ k. k == n) sources
+
+source_back : (s : Source) → source_at (source_number s) ≡ Some s
+source_back source.T0 = refl
+source_back source.Int = refl
+source_back source.Psp = refl
+source_back source.Ad = refl
+source_back source.Ssp = refl
+source_back source.Ccp1 = refl
+source_back source.Tmr2 = refl
+source_back source.Tmr1 = refl
+source_back source.Ee = refl
+source_back source.Bcl = refl
+source_back source.Ccp2 = refl
+
+one_number : (a b : Source) → source_number a ≡ source_number b → a ≡ b
+one_number a b e = let found : Some a ≡ Some b = sym (source_back a) ∙ ap source_at e ∙ source_back b in cc found
+
+sources_differ : (a b : Source) → b ≢ a → not (source_number a == source_number b) ≡ true
+sources_differ a b h = go (source_number a == source_number b) refl
+  where
+    go : (t : Bool) → (source_number a == source_number b) ≡ t → not t ≡ true
+    go false e = refl
+    go true e = absurd (h (sym (one_number a b (eqb-true (source_number a) (source_number b) e))))
+
+events_apart : (xs : List MapEvent) (e : MapEvent) → list_all (λ other. events_differ other e) xs ≡ true → AllByRecursion (λ other. e.name ≢ other.name) xs × AllByRecursion (λ other. e.source ≢ other.source) xs
+events_apart [] e h = (tt, tt)
+events_apart (x ∷ xs) e h =
+    let (here, rest) = and_parts (events_differ x e) (list_all (λ other. events_differ other e) xs) h in
+    let (name, source) = and_parts (not (bytes_eq x.name e.name)) (not (source_number x.source == source_number e.source)) here in
+    let (names, sources) = events_apart xs e rest in
+    ((names_apart x.name e.name name, names), (sources_apart x.source e.source source, sources))
+
+events_pass : (xs : List MapEvent) (e : MapEvent) → AllByRecursion (λ other. e.name ≢ other.name) xs → AllByRecursion (λ other. e.source ≢ other.source) xs → list_all (λ other. events_differ other e) xs ≡ true
+events_pass [] e h k = refl
+events_pass (x ∷ xs) e h k =
+    and_from (events_differ x e) (list_all (λ other. events_differ other e) xs) (and_from (not (bytes_eq x.name e.name)) (not (source_number x.source == source_number e.source)) (names_differ x.name e.name h.0) (sources_differ x.source e.source k.0))
+    (events_pass xs e h.1 k.1)
+
+states_apart : (xs : List MapState) (s : MapState) → list_all (λ other. states_differ other s) xs ≡ true → AllByRecursion (λ other. s.name ≢ other.name) xs
+states_apart [] s h = tt
+states_apart (x ∷ xs) s h = let (here, rest) = and_parts (states_differ x s) (list_all (λ other. states_differ other s) xs) h in (names_apart x.name s.name here, states_apart xs s rest)
+
+states_pass : (xs : List MapState) (s : MapState) → AllByRecursion (λ other. s.name ≢ other.name) xs → list_all (λ other. states_differ other s) xs ≡ true
+states_pass [] s h = refl
+states_pass (x ∷ xs) s h = and_from (states_differ x s) (list_all (λ other. states_differ other s) xs) (names_differ x.name s.name h.0) (states_pass xs s h.1)
+
+-- Ranges that rise.
+
+abbrev pub lowest_behind : ℕ → List Range → ℕ
+lowest_behind low [] = low
+lowest_behind low (r ∷ rs) = lowest_behind (r.to + 2) rs
+
+lowest_push : (low : ℕ) (rs : List Range) (r : Range) → lowest_behind low (rs ++ r ∷ []) ≡ r.to + 2
+lowest_push low [] r = refl
+lowest_push low (x ∷ rs) r = lowest_push (x.to + 2) rs r
+
+rise_push : (low : ℕ) (rs : List Range) (r : Range) → RangesRise low rs → lowest_behind low rs ≤ r.from → IsRange r → RangesRise low (rs ++ r ∷ [])
+rise_push low [] r h k v = (k, v.0, v.1, tt)
+rise_push low (x ∷ rs) r h k v = (h.0, h.1, h.2, rise_push (x.to + 2) rs r h.3 k v)
+
+rise_front : (low : ℕ) (rs : List Range) (r : Range) (more : List Range) → RangesRise low (rs ++ r ∷ more) → lowest_behind low rs ≤ r.from
+rise_front low [] r more h = h.0
+rise_front low (x ∷ rs) r more h = rise_front (x.to + 2) rs r more h.3
+
+-- The entries that a draft was made from.
+
+abbrev pub so_far : Section → Map → List Entry
+so_far section.Start m = []
+so_far section.Events m = entry.Head ∷ map entry.Event m.events
+so_far section.States m = entry.Head ∷ (map entry.Event m.events ++ map entry.State m.states)
+so_far section.Outputs m = entry.Head ∷ (map entry.Event m.events ++ (map entry.State m.states ++ map entry.Output m.outputs))
+so_far section.Registers m = entry.Head ∷ (map entry.Event m.events ++ (map entry.State m.states ++ (map entry.Output m.outputs ++ (entry.Ready m.ready ∷ map entry.Regs m.regs))))
+so_far section.End m = entries_of m
+
+-- What later sections hold is still empty.
+abbrev pub IsLater : Section → Map → Type 0
+IsLater section.Start m = (m.events ≡ []) × (m.states ≡ []) × (m.outputs ≡ []) × (m.regs ≡ [])
+IsLater section.Events m = (m.states ≡ []) × (m.outputs ≡ []) × (m.regs ≡ [])
+IsLater section.States m = (m.outputs ≡ []) × (m.regs ≡ [])
+IsLater section.Outputs m = m.regs ≡ []
+IsLater section.Registers m = Unit {0}
+IsLater section.End m = Unit {0}
+
+pub record IsDraft (xs : List Entry) (d : Draft) : Type 0 where
+  pub entries : xs ≡ so_far d.section d.map
+  pub reached : run section.Start xs ≡ Some d.section
+  pub events : filter_map event_in xs ≡ d.map.events
+  pub states : filter_map state_in xs ≡ d.map.states
+  pub outputs : filter_map output_in xs ≡ d.map.outputs
+  pub ranges : filter_map range_in xs ≡ d.map.regs
+  pub lowest : d.lowest ≡ lowest_behind 0 d.map.regs
+  pub later : IsLater d.section d.map
+  pub rules : IsMap d.map
+
+pub empty_is_draft : IsDraft [] empty_draft
+empty_is_draft = record { entries = refl; reached = refl; events = refl; states = refl; outputs = refl; ranges = refl; lowest = refl; later = (refl, refl, refl, refl); rules = search (arith) }
+
+-- Each draft's entries are a front of its map's.
+pub still_to_come : (s : Section) (m : Map) → (more : List Entry) × (entries_of m ≡ so_far s m ++ more)
+still_to_come section.Start m = (entries_of m, refl)
+still_to_come section.Events m = (_, refl)
+still_to_come section.States m = (_, ap (λ u. entry.Head ∷ u) (sym (append_assoc (map entry.Event m.events) (map entry.State m.states) _)))
+still_to_come section.Outputs m = (entry.Ready m.ready ∷ (map entry.Regs m.regs ++ (entry.Report (report_of m) ∷ [])), simp append_assoc)
+still_to_come section.Registers m = (entry.Report (report_of m) ∷ [], simp append_assoc)
+still_to_come section.End m = ([], sym (append-nil (entries_of m)))
+
+-- One more entry.
+
+Pushed : Section → Map → Entry → List Entry → Type 0
+Pushed t m e xs = (so_far t (with_entry m e) ≡ xs ++ e ∷ []) × IsLater t (with_entry m e)
+
+pushed : (s t : Section) (m : Map) (e : Entry) → IsLater s m → section_after s e ≡ Some t → Pushed t m e (so_far s m)
+unfolding Pushed
+pushed section.Start t m entry.Head l h =
+    let same : section.Events ≡ t = cc h in subst (λ u. Pushed u m entry.Head []) same (ap (λ es. entry.Head ∷ map entry.Event es) l.0, (l.1, l.2, l.3))
+pushed section.Events t m (entry.Event e) l h =
+    let same : section.Events ≡ t = cc h in subst (λ u. Pushed u m (entry.Event e) (so_far section.Events m)) same (ap (λ u. entry.Head ∷ u) (map-append entry.Event m.events (e ∷ [])), l)
+pushed section.Events t m (entry.State s) l h =
+    let same : section.States ≡ t = cc h in
+    subst (λ u. Pushed u m (entry.State s) (so_far section.Events m)) same (ap (λ ss. entry.Head ∷ (map entry.Event m.events ++ map entry.State (ss ++ s ∷ []))) l.0, (l.1, l.2))
+pushed section.Events t m (entry.Output port) l h =
+    let same : section.Outputs ≡ t = cc h in
+    subst (λ u. Pushed u m (entry.Output port) (so_far section.Events m)) same (
+      ap (λ ss. entry.Head ∷ (map entry.Event m.events ++ (map entry.State ss ++ map entry.Output (m.outputs ++ port ∷ [])))) l.0
+          ∙ ap (λ os. entry.Head ∷ (map entry.Event m.events ++ map entry.Output (os ++ port ∷ []))) l.1,
+      l.2,
+    )
+pushed section.Events t m (entry.Ready address) l h =
+    let same : section.Registers ≡ t = cc h in
+    subst (λ u. Pushed u m (entry.Ready address) (so_far section.Events m)) same (
+      ap (λ ss. entry.Head ∷ (map entry.Event m.events ++ (map entry.State ss ++ (map entry.Output m.outputs ++ (entry.Ready address ∷ map entry.Regs m.regs))))) l.0
+          ∙ ap (λ os. entry.Head ∷ (map entry.Event m.events ++ (map entry.Output os ++ (entry.Ready address ∷ map entry.Regs m.regs)))) l.1
+          ∙ ap (λ rs. entry.Head ∷ (map entry.Event m.events ++ (entry.Ready address ∷ map entry.Regs rs))) l.2,
+      tt,
+    )
+pushed section.States t m (entry.State s) l h =
+    let same : section.States ≡ t = cc h in subst (λ u. Pushed u m (entry.State s) (so_far section.States m)) same (simp (map-append, append_assoc), l)
+pushed section.States t m (entry.Output port) l h =
+    let same : section.Outputs ≡ t = cc h in
+    subst (λ u. Pushed u m (entry.Output port) (so_far section.States m)) same (
+      ap (λ os. entry.Head ∷ (map entry.Event m.events ++ (map entry.State m.states ++ map entry.Output (os ++ port ∷ [])))) l.0
+          ∙ ap (λ u. entry.Head ∷ u) (sym (append_assoc (map entry.Event m.events) (map entry.State m.states) (entry.Output port ∷ []))),
+      l.1,
+    )
+pushed section.States t m (entry.Ready address) l h =
+    let same : section.Registers ≡ t = cc h in
+    subst (λ u. Pushed u m (entry.Ready address) (so_far section.States m)) same (
+      ap (λ os. entry.Head ∷ (map entry.Event m.events ++ (map entry.State m.states ++ (map entry.Output os ++ (entry.Ready address ∷ map entry.Regs m.regs))))) l.0
+          ∙ ap (λ rs. entry.Head ∷ (map entry.Event m.events ++ (map entry.State m.states ++ (entry.Ready address ∷ map entry.Regs rs)))) l.1
+          ∙ ap (λ u. entry.Head ∷ u) (sym (append_assoc (map entry.Event m.events) (map entry.State m.states) (entry.Ready address ∷ []))),
+      tt,
+    )
+pushed section.Outputs t m (entry.Output port) l h =
+    let same : section.Outputs ≡ t = cc h in subst (λ u. Pushed u m (entry.Output port) (so_far section.Outputs m)) same (simp (map-append, append_assoc), l)
+pushed section.Outputs t m (entry.Ready address) l h =
+    let same : section.Registers ≡ t = cc h in
+    subst (λ u. Pushed u m (entry.Ready address) (so_far section.Outputs m)) same (
+      ap (λ rs. entry.Head ∷ (map entry.Event m.events ++ (map entry.State m.states ++ (map entry.Output m.outputs ++ (entry.Ready address ∷ map entry.Regs rs))))) l ∙ simp append_assoc,
+      tt,
+    )
+pushed section.Registers t m (entry.Regs r) l h =
+    let same : section.Registers ≡ t = cc h in subst (λ u. Pushed u m (entry.Regs r) (so_far section.Registers m)) same (simp (map-append, append_assoc), tt)
+pushed section.Registers t m (entry.Report r) l h =
+    let same : section.End ≡ t = cc h in subst (λ u. Pushed u m (entry.Report r) (so_far section.Registers m)) same (simp append_assoc, tt)
+pushed s t m e l h = absurd (cc h)
+
+events_with : (m : Map) (e : Entry) → m.events ++ filter_map event_in (e ∷ []) ≡ (with_entry m e).events
+events_with m (entry.Event e) = refl
+events_with m e = append-nil m.events
+
+states_with : (m : Map) (e : Entry) → m.states ++ filter_map state_in (e ∷ []) ≡ (with_entry m e).states
+states_with m (entry.State s) = refl
+states_with m e = append-nil m.states
+
+outputs_with : (m : Map) (e : Entry) → m.outputs ++ filter_map output_in (e ∷ []) ≡ (with_entry m e).outputs
+outputs_with m (entry.Output port) = refl
+outputs_with m e = append-nil m.outputs
+
+ranges_with : (m : Map) (e : Entry) → m.regs ++ filter_map range_in (e ∷ []) ≡ (with_entry m e).regs
+ranges_with m (entry.Regs r) = refl
+ranges_with m e = append-nil m.regs
+
+lowest_same : (m : Map) (e : Entry) → lowest_with (lowest_behind 0 m.regs) e ≡ lowest_behind 0 (with_entry m e).regs
+lowest_same m (entry.Regs r) = sym (lowest_push 0 m.regs r)
+lowest_same m e = refl
+
+-- The rules with one more entry, which the draft admits.
+rules_with : (d : Draft) (e : Entry) → IsMap d.map → d.lowest ≡ lowest_behind 0 d.map.regs → IsEntry e → admits d e ≡ true → IsMap (with_entry d.map e)
+rules_with d entry.Head h low v a = h
+rules_with d (entry.Event e) h low v a =
+    let (room, new) = and_parts (nat_lt (length d.map.events) 11) (list_all (λ other. events_differ other e) d.map.events) a in
+    let apart = events_apart d.map.events e new in
+    let events = all_append IsEvent d.map.events (e ∷ []) h.events (v, tt) in
+    let names = differ_push (λ (x : MapEvent). x.name) d.map.events e h.event_names apart.0 in
+    let sources = differ_push (λ (x : MapEvent). x.source) d.map.events e h.sources apart.1 in
+    let limit : length (d.map.events ++ e ∷ []) ≤ 11 = omega (arith, length-append d.map.events (e ∷ []), ltb-true (length d.map.events) 11 room) in
+    assumption (events, names, sources, limit)
+rules_with d (entry.State s) h low v a =
+    let (room, new) = and_parts (nat_lt (length d.map.states) 128) (list_all (λ other. states_differ other s) d.map.states) a in
+    let states = all_append IsState d.map.states (s ∷ []) h.states (v, tt) in
+    let names = differ_push (λ (x : MapState). x.name) d.map.states s h.state_names (states_apart d.map.states s new) in
+    let limit : length (d.map.states ++ s ∷ []) ≤ 128 = omega (arith, length-append d.map.states (s ∷ []), ltb-true (length d.map.states) 128 room) in
+    assumption (states, names, limit)
+rules_with d (entry.Output port) h low v a =
+    let outputs = all_append (λ p. p < 5) d.map.outputs (port ∷ []) h.outputs (v, tt) in
+    let limit : length (d.map.outputs ++ port ∷ []) ≤ 5 = omega (arith, length-append d.map.outputs (port ∷ []), ltb-true (length d.map.outputs) 5 a) in
+    assumption (outputs, limit)
+rules_with d (entry.Ready address) h low v a = assumption (v)
+rules_with d (entry.Regs r) h low v a =
+    let behind = subst (λ n. n ≤ r.from) low (leb-true d.lowest r.from a) in
+    let ranges = rise_push 0 d.map.regs r h.ranges behind v in
+    assumption (ranges)
+rules_with d (entry.Report r) h low v a = assumption (v)
+
+drafted : (xs : List Entry) (d : Draft) (t : Section) (e : Entry) → IsDraft xs d → IsEntry e → admits d e ≡ true → section_after d.section e ≡ Some t
+    → IsDraft (xs ++ e ∷ []) (record { section = t; map = with_entry d.map e; lowest = lowest_with d.lowest e })
+unfolding Pushed
+drafted xs d t e h v a after =
+    let next = pushed d.section t d.map e h.later after in
+    record {
+      entries = ap (λ u. u ++ e ∷ []) h.entries ∙ sym next.0;
+      reached = run-append section.Start xs (e ∷ []) ∙ ap (option_and_then (λ u. run u (e ∷ []))) h.reached ∙ ap (option_and_then (λ u. Some u)) after;
+      events = filter_map-append event_in xs (e ∷ []) ∙ ap (λ u. u ++ filter_map event_in (e ∷ [])) h.events ∙ events_with d.map e;
+      states = filter_map-append state_in xs (e ∷ []) ∙ ap (λ u. u ++ filter_map state_in (e ∷ [])) h.states ∙ states_with d.map e;
+      outputs = filter_map-append output_in xs (e ∷ []) ∙ ap (λ u. u ++ filter_map output_in (e ∷ [])) h.outputs ∙ outputs_with d.map e;
+      ranges = filter_map-append range_in xs (e ∷ []) ∙ ap (λ u. u ++ filter_map range_in (e ∷ [])) h.ranges ∙ ranges_with d.map e;
+      lowest = ap (λ n. lowest_with n e) h.lowest ∙ lowest_same d.map e;
+      later = next.1;
+      rules = rules_with d e h.rules h.lowest v a;
+    }
+
+-- The draft with an entry that it admits is that of the entries and this one.
+pub draft_more : (xs : List Entry) (d d' : Draft) (e : Entry) → IsDraft xs d → IsEntry e → Added d e true d' → IsDraft (xs ++ e ∷ []) d'
+draft_more xs d d' e h v a =
+    let same : record { section = d'.section; map = with_entry d.map e; lowest = lowest_with d.lowest e } ≡ d' = λ i. record { section = d'.section; map = (sym a.2) i; lowest = (sym a.3) i } in
+    subst (IsDraft (xs ++ e ∷ [])) same (drafted xs d d'.section e h v a.0 a.1)
+
+-- An entry that stands next in a map's row is admitted.
+admitted : (m : Map) (xs more : List Entry) (d : Draft) (e : Entry) → IsMap m → entries_of m ≡ xs ++ (e ∷ more) → IsDraft xs d → admits d e ≡ true
+admitted m xs more d entry.Head rules same h = refl
+admitted m xs more d (entry.Ready address) rules same h = refl
+admitted m xs more d (entry.Report r) rules same h = refl
+admitted m xs more d (entry.Event e) rules same h =
+    let behind = filter_map event_in more in
+    let all : m.events ≡ d.map.events ++ (e ∷ behind) = sym (events_of m) ∙ ap (filter_map event_in) same ∙ filter_map-append event_in xs (entry.Event e ∷ more) ∙ ap (λ u. u ++ (e ∷ behind)) h.events in
+    let names = differ_front (λ (x : MapEvent). x.name) d.map.events e behind (subst (AllDiffer (λ (x : MapEvent). x.name)) all rules.event_names) in
+    let sources = differ_front (λ (x : MapEvent). x.source) d.map.events e behind (subst (AllDiffer (λ (x : MapEvent). x.source)) all rules.sources) in
+    let room : length d.map.events < 11 = omega (arith, rules.event_limit, ap length all, length-append d.map.events (e ∷ behind)) in
+    and_from (nat_lt (length d.map.events) 11) (list_all (λ other. events_differ other e) d.map.events) (lt-ltb (length d.map.events) 11 room) (events_pass d.map.events e names sources)
+admitted m xs more d (entry.State s) rules same h =
+    let behind = filter_map state_in more in
+    let all : m.states ≡ d.map.states ++ (s ∷ behind) = sym (states_of m) ∙ ap (filter_map state_in) same ∙ filter_map-append state_in xs (entry.State s ∷ more) ∙ ap (λ u. u ++ (s ∷ behind)) h.states in
+    let names = differ_front (λ (x : MapState). x.name) d.map.states s behind (subst (AllDiffer (λ (x : MapState). x.name)) all rules.state_names) in
+    let room : length d.map.states < 128 = omega (arith, rules.state_limit, ap length all, length-append d.map.states (s ∷ behind)) in
+    and_from (nat_lt (length d.map.states) 128) (list_all (λ other. states_differ other s) d.map.states) (lt-ltb (length d.map.states) 128 room) (states_pass d.map.states s names)
+admitted m xs more d (entry.Output port) rules same h =
+    let behind = filter_map output_in more in
+    let all : m.outputs ≡ d.map.outputs ++ (port ∷ behind) = sym (outputs_of m) ∙ ap (filter_map output_in) same ∙ filter_map-append output_in xs (entry.Output port ∷ more) ∙ ap (λ u. u ++ (port ∷ behind)) h.outputs in
+    lt-ltb (length d.map.outputs) 5 (omega (arith, rules.output_limit, ap length all, length-append d.map.outputs (port ∷ behind)))
+admitted m xs more d (entry.Regs r) rules same h =
+    let behind = filter_map range_in more in
+    let all : m.regs ≡ d.map.regs ++ (r ∷ behind) = sym (ranges_of m) ∙ ap (filter_map range_in) same ∙ filter_map-append range_in xs (entry.Regs r ∷ more) ∙ ap (λ u. u ++ (r ∷ behind)) h.ranges in
+    le-leb d.lowest r.from (subst (λ n. n ≤ r.from) (sym h.lowest) (rise_front 0 d.map.regs r behind (subst (RangesRise 0) all rules.ranges)))
+
+-- An entry that the draft doesn't admit stands next in no map's row.
+pub draft_refuses : (m : Map) (xs more : List Entry) (d d' : Draft) (e : Entry) → IsMap m → IsDraft xs d → Added d e false d' → entries_of m ≢ xs ++ (e ∷ more)
+draft_refuses m xs more d d' e rules h (inl none) same = out_of_order m d.section xs more e h.reached same none
+draft_refuses m xs more d d' e rules h (inr unfit) same = both_ways (admits d e) unfit (admitted m xs more d e rules same h)

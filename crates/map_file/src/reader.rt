@@ -1,0 +1,67 @@
+ghost use Rattle.std.specs.Prelude.{◌≡◌, ◌^◌, ◌<◌, ◌++◌, ◌∷◌, length, position, ◌==◌, IfOk, IfErr, MatchOption, IsTrue, ◌↔◌, []};
+ghost use Rattle.map_file.specs.declared.maps.Map.{Map as Maps};
+ghost use Rattle.map_file.specs.MapFaults.{HasNoEnd, IsFaultOf, IsReadAs};
+ghost use Rattle.map_file.specs.MapRules.{IsMap};
+ghost use Rattle.map_file.specs.MapText.{map_text};
+
+use crate::drafting::{add, empty};
+use crate::drafts::Draft;
+use crate::entries::Section;
+use crate::faults::MapFault;
+use crate::line_entries::entry_in;
+use crate::maps::Map;
+use std::alloc::Global;
+
+// The place of the first LF.
+fn end_in(bytes: &[u8]) -> Option<usize>
+    ensures { result ≡ position (λ b. b == 10) bytes.now }
+{
+    bytes.iter().position(|byte| *byte == b'\n')
+}
+
+// The first line, without its LF, and what follows it; None where no LF is left.
+fn split_line(bytes: &[u8]) -> Option<(&[u8], &[u8])>
+    ensures { MatchOption result
+        (HasNoEnd bytes.now)
+        (λ found. HasNoEnd found.0.now × (bytes.now ≡ found.0.now ++ (10 ∷ found.1.now))) }
+{
+    let end = end_in(bytes)?;
+    Some((&bytes[..end], &bytes[end + 1..]))
+}
+
+// Whether the last line has been read and nothing is left.
+fn is_whole(draft: &Draft, rest: &[u8]) -> bool
+    ensures { IsTrue result ↔ ((rest.now ≡ []) × (draft.now.section ≡ Section.End)) }
+{
+    rest.is_empty() && draft.section == Section::End
+}
+
+/// The map whose text the bytes are. `Line(n)` where line n, counted from 1, is the first that isn't in the form
+/// at its place: a line that is missing, or the last without its LF, isn't either. `Memory` is want of memory.
+/// The time is linear in the bytes, but for names, which are compared two by two.
+pub fn read(alloc: Global, bytes: &[u8]) -> Result<Map, MapFault>
+    requires { length bytes.now < 2 ^ 32 }
+    ensures map { IfOk result (λ map. IsMap map × (bytes.now ≡ map_text map)) }
+    ensures fault { IfErr result (IsFaultOf bytes.now) }
+    // A map's text is read as this map and refused only for want of memory.
+    ensures complete { (map : Maps) → IsMap map → bytes.now ≡ map_text map → IsReadAs map result }
+{
+    let mut draft = empty(alloc);
+    let mut rest = bytes;
+    let mut number: u32 = 1;
+    while let Some((line, behind)) = split_line(rest) {
+        let Some(entry) = entry_in(alloc, line)? else {
+            return Err(MapFault::Line(number));
+        };
+        let added = add(&mut draft, entry)?;
+        if !added {
+            return Err(MapFault::Line(number));
+        }
+        rest = behind;
+        number += 1;
+    }
+    if !is_whole(&draft, rest) {
+        return Err(MapFault::Line(number));
+    }
+    Ok(draft.map)
+}
