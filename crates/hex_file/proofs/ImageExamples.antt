@@ -11,22 +11,22 @@ use Rattle.hex_file.proofs.LineFacts.{bytes_from, bytes_allowed, bytes_of_line, 
 
 -- The records of the file: the upper address, the word 2800h at 0, the configuration word 3F3Ah, and the end.
 
-abbrev upper : HexRecord
+abbrev pub upper : HexRecord
 upper = record { address = 0; kind = 4; payload = 0 ∷ 0 ∷ [] }
 
-abbrev word : HexRecord
+abbrev pub word : HexRecord
 word = bytes_from 0 (0 ∷ 0x28 ∷ [])
 
-abbrev config : HexRecord
+abbrev pub config : HexRecord
 config = bytes_from 0x400E (0x3A ∷ 0x3F ∷ [])
 
-abbrev last : HexRecord
+abbrev pub last : HexRecord
 last = record { address = 0; kind = 1; payload = [] }
 
-upper_allowed : IsAllowed upper
+pub upper_allowed : IsAllowed upper
 upper_allowed = record { known = lit≤ tt; in_range = λ e. cc; end_empty = λ e. cc; upper_zero = λ e. refl }
 
-last_allowed : IsAllowed last
+pub last_allowed : IsAllowed last
 last_allowed = record { known = lit≤ tt; in_range = λ e. cc; end_empty = λ e. refl; upper_zero = ⊎_elim (λ e. cc) (λ e. cc) }
 
 abbrev small_image : Image
@@ -34,10 +34,10 @@ small_image = record { words = record { address = 0; word = 0x2800 } ∷ []; con
 
 -- What the records give.
 
-abbrev Records : List HexRecord
+abbrev pub Records : List HexRecord
 Records = upper ∷ word ∷ config ∷ []
 
-one_value : Agree Records
+pub one_value : Agree Records
 one_value address first second a b = let p = given_bytes Records address first a in let q = given_bytes Records address second b in omega arith
 
 low_of_word : GivesByte Records 0 0
@@ -104,7 +104,7 @@ aside_is = record {
   );
 }
 
-not_ended : (index : ℕ) (r : HexRecord) → index < 3 → (slice_index_or Records index r).kind ≢ 1
+pub not_ended : (index : ℕ) (r : HexRecord) → index < 3 → (slice_index_or Records index r).kind ≢ 1
 not_ended zero r below e = cc
 not_ended (suc zero) r below e = cc
 not_ended (suc (suc zero)) r below e = cc

@@ -171,7 +171,7 @@ allowed_at [] (s ∷ records) end index r zipped below is = absurd zipped
 allowed_at (l ∷ lines) (s ∷ records) end zero r zipped below is = subst IsAllowed is zipped.0.allowed
 allowed_at (l ∷ lines) (s ∷ records) end (suc index) r zipped below is = allowed_at lines records end index r zipped.1 (omega arith) is
 
-given_below : (bytes : List ℕ) (records : List HexRecord) (address byte : ℕ) → SpellsRecords bytes records → GivesByte records address byte → address < 0x10000
+pub given_below : (bytes : List ℕ) (records : List HexRecord) (address byte : ℕ) → SpellsRecords bytes records → GivesByte records address byte → address < 0x10000
 given_below bytes records address byte spelled g =
     let allowed : IsAllowed g.source = allowed_at _ records spelled.end g.among.0 g.source spelled.lines g.among.1 g.among.2 in
     let place : g.place < length g.source.payload = slice_get_within g.source.payload g.place byte g.value in

@@ -45,16 +45,16 @@ line_no_ending e low bytes fit zero d below = grind (arith, nat_tests)
 line_no_ending e low bytes fit (suc k) d below = digits_no_ending e low bytes fit k d (omega arith)
 
 -- A text has one part at least.
-record HasParts (parts : List (List ℕ)) : Type 0 where
-  first : List ℕ
-  others : List (List ℕ)
-  is : parts ≡ first ∷ others
+pub record HasParts (parts : List (List ℕ)) : Type 0 where
+  pub first : List ℕ
+  pub others : List (List ℕ)
+  pub is : parts ≡ first ∷ others
 
 onto_has : (x : ℕ) (parts : List (List ℕ)) → HasParts (onto_first x parts)
 onto_has x [] = record { first = x ∷ []; others = []; is = refl }
 onto_has x (part ∷ parts) = record { first = x ∷ part; others = parts; is = refl }
 
-has_parts : (text : List ℕ) → HasParts (slice_split (λ b. b == 10) text)
+pub has_parts : (text : List ℕ) → HasParts (slice_split (λ b. b == 10) text)
 has_parts [] = record { first = []; others = []; is = refl }
 has_parts (x ∷ xs) =
     elim (x == 10) as (λ b. HasParts (cond b ([] ∷ slice_split (λ b. b == 10) xs) (onto_first x (slice_split (λ b. b == 10) xs))))

@@ -1,3 +1,5 @@
+pub mod Faults
 pub mod ImageOf
 pub mod Kinds
+pub mod Tables
 pub mod Written

@@ -1,0 +1,141 @@
+ghost use Rattle.std.specs.Prelude.{◌<◌, length};
+
+use crate::{Aside, HexFault, Word, read};
+use std::alloc::Global;
+use std::test::Fail;
+
+// The jump to itself at 0, and a configuration word.
+const SMALL: &[u8; 60] = b":020000040000FA\n:020000000028D6\n:02400E003A3F37\n:00000001FF\n";
+
+// Whether a text means that image.
+fn is_small(alloc: Global, text: &[u8]) -> Result<bool, HexFault>
+    requires { length text.now < 100 }
+{
+    let image = read(alloc, text)?;
+    let word = Word {
+        address: 0,
+        word: 0x2800,
+    };
+    Ok(
+        image.words.as_slice() == [word].as_slice()
+            && image.config == Some(0x3F3A)
+            && image.aside.len() == 0,
+    )
+}
+
+// The fault of a short text.
+fn fault(alloc: Global, text: &[u8]) -> Option<HexFault> {
+    if text.len() > 100 {
+        return None;
+    }
+    read(alloc, text).err()
+}
+
+#[test]
+fn either_case_and_any_order(rt: HostRuntime) -> Result<(), Fail> {
+    assert!(rt; is_small(rt.alloc(), SMALL)?);
+    let lower = b":020000040000fa\r\n:020000000028d6\r\n:02400e003a3f37\r\n:00000001ff\r\n";
+    assert!(rt; is_small(rt.alloc(), lower)?);
+    let others = b"\n:02400E003A3F37\n\r\n:020000000028D6\n:020000020000FC\n:00000001FF";
+    assert!(rt; is_small(rt.alloc(), others)?);
+    Ok(())
+}
+
+// Start addresses are skipped, the top two bits dropped, and a byte that isn't given is FFh.
+#[test]
+fn unusual_records(rt: HostRuntime) -> Result<(), Fail> {
+    let text =
+        b":01400F003F71\r\n:014000005a65\n:0400000300001234B3\n:0400000500001234B1\n:0100050028D2\n:0100050028d2\n:020000000CF002\n:00123401B9";
+    let image = read(rt.alloc(), text)?;
+    let words = [
+        Word {
+            address: 0,
+            word: 0x300C,
+        },
+        Word {
+            address: 2,
+            word: 0x28FF,
+        },
+    ];
+    assert_eq!(rt; image.words.as_slice(), words.as_slice());
+    assert_eq!(rt; image.config, Some(0x3FFF));
+    let aside = [Aside {
+        address: 0x4000,
+        byte: 0x5A,
+    }];
+    assert_eq!(rt; image.aside.as_slice(), aside.as_slice());
+    Ok(())
+}
+
+#[test]
+fn faults_of_lines(rt: HostRuntime) {
+    let no_colon = fault(rt.alloc(), b"\n\r\n00000001FF");
+    assert_eq!(rt; no_colon, Some(HexFault::BadChar(3)));
+    let no_digit = fault(rt.alloc(), b":0000000GFF");
+    assert_eq!(rt; no_digit, Some(HexFault::BadChar(1)));
+    let end_of_line = fault(rt.alloc(), b":00000001FF\r");
+    assert_eq!(rt; end_of_line, Some(HexFault::BadChar(1)));
+    let odd = fault(rt.alloc(), b":00000001FF0");
+    assert_eq!(rt; odd, Some(HexFault::BadLength(1)));
+    let four_bytes = fault(rt.alloc(), b":00000000");
+    assert_eq!(rt; four_bytes, Some(HexFault::BadLength(1)));
+    let too_long = fault(rt.alloc(), b":0000000100FF");
+    assert_eq!(rt; too_long, Some(HexFault::BadLength(1)));
+    let sum = fault(rt.alloc(), b"\n:02400E003A3F36\n:x");
+    assert_eq!(rt;
+        sum,
+        Some(HexFault::BadSum {
+            line: 2,
+            got: 0x36,
+            want: 0x37
+        })
+    );
+    let six = fault(rt.alloc(), b":00000006FA");
+    assert_eq!(rt; six, Some(HexFault::BadType { line: 1, kind: 6 }));
+}
+
+#[test]
+fn faults_of_records(rt: HostRuntime) {
+    let end = fault(rt.alloc(), b":0100000100FE");
+    assert_eq!(rt; end, Some(HexFault::BadLength(1)));
+    let upper = fault(rt.alloc(), b":0100000401FA");
+    assert_eq!(rt; upper, Some(HexFault::BadLength(1)));
+    let above_zero = fault(rt.alloc(), b":020000040001F9");
+    assert_eq!(rt; above_zero, Some(HexFault::OutOfRange(1)));
+    let past = fault(rt.alloc(), b":02FFFF00000000");
+    assert_eq!(rt; past, Some(HexFault::OutOfRange(1)));
+    // Only the top two bits of the word differ.
+    let clash = fault(rt.alloc(), b":020000000028D6\n:02000000006896");
+    assert_eq!(rt;
+        clash,
+        Some(HexFault::Clash {
+            line: 2,
+            address: 1
+        })
+    );
+    let behind = fault(rt.alloc(), b":00000001FF\n\n:00000001FF");
+    assert_eq!(rt; behind, Some(HexFault::AfterEnd(3)));
+    assert_eq!(rt; fault(rt.alloc(), b""), Some(HexFault::NoEnd));
+    let no_end = fault(rt.alloc(), b":020000000028D6\n");
+    assert_eq!(rt; no_end, Some(HexFault::NoEnd));
+}
+
+// The last line feed may be missing.
+#[test]
+fn cut_at_each_byte(rt: HostRuntime) {
+    for end in 0..SMALL.len() {
+        assert_eq!(rt; fault(rt.alloc(), &SMALL[..end]).is_none(), end >= 59);
+    }
+}
+
+#[test]
+fn changed_at_each_byte(rt: HostRuntime) {
+    let mut text = *SMALL;
+    for place in 0..60 {
+        let kept = text[place];
+        text[place] = 0xFF;
+        let line = 1 + place as u32 / 16;
+        assert_eq!(rt; fault(rt.alloc(), &text), Some(HexFault::BadChar(line)));
+        text[place] = kept;
+    }
+}
