@@ -1,0 +1,9 @@
+pub mod CauseFacts
+pub mod DigitFacts
+pub mod DraftFacts
+mod Examples
+pub mod FieldFacts
+pub mod ListFacts
+pub mod NameFacts
+pub mod ReadFacts
+pub mod SourceFacts

@@ -1,0 +1,97 @@
+-- Lists with one more element at the end, and searches in them.
+use Rattle.std.proofs.Common.{◌≡◌, ℕ, ◌+◌, ◌-◌, ◌<◌, ◌≤◌, Bool, true, false, not, ◌&&◌, ◌||◌, cond, nat_lt, List, [], ◌∷◌, ◌++◌, length, map, get_or, Option, Some, None, is_some, slice_get, refl, sym, ap, ◌∙◌, ⊎_elim, arith, length-append}
+use Rattle.std.specs.List.{find, filter, list_any, prefix_len}
+use Rattle.std.specs.List.Sorted.{IsStrictlyIncreasing}
+use Rattle.std.specs.Option.{option_or, option_map}
+use Rattle.std.proofs.lemmas.Bool.{ltb-true, cases_lt}
+use Rattle.std.proofs.lemmas.List.{append-nil, length-map, get_or_append_left}
+use Rattle.std.proofs.Math.Seq.{get_or-append_seam}
+use Rattle.std.proofs.lemmas.List.Elements.{filter-append}
+use Rattle.std.proofs.lemmas.List.Folds.{find-append}
+use Rattle.std.proofs.lemmas.Option.{slice_get-map, slice_get-get_or}
+use Rattle.std.proofs.Math.Numerals.{one-add}
+
+or_none : {X : Type 0} (o : Option X) → option_or o None ≡ o
+or_none None = refl
+or_none (Some x) = refl
+
+pub find-no : {X : Type 0} (p : X → Bool) (xs : List X) (x : X) → p x ≡ false → find p (xs ++ x ∷ []) ≡ find p xs
+find-no p xs x h = find-append p xs (x ∷ []) ∙ ap (λ b. option_or (find p xs) (cond b (Some x) None)) h ∙ or_none (find p xs)
+
+pub find-yes : {X : Type 0} (p : X → Bool) (xs : List X) (x : X) → find p xs ≡ None → p x ≡ true → find p (xs ++ x ∷ []) ≡ Some x
+find-yes p xs x e h = find-append p xs (x ∷ []) ∙ ap (λ o. option_or o (cond (p x) (Some x) None)) e ∙ ap (λ b. cond b (Some x) None) h
+
+pub filter-no : {X : Type 0} (p : X → Bool) (xs : List X) (x : X) → p x ≡ false → filter p (xs ++ x ∷ []) ≡ filter p xs
+filter-no p xs x h = filter-append p xs (x ∷ []) ∙ ap (λ b. filter p xs ++ cond b (x ∷ []) []) h ∙ append-nil (filter p xs)
+
+pub filter-yes : {X : Type 0} (p : X → Bool) (xs : List X) (x : X) → p x ≡ true → filter p (xs ++ x ∷ []) ≡ filter p xs ++ x ∷ []
+filter-yes p xs x h = filter-append p xs (x ∷ []) ∙ ap (λ b. filter p xs ++ cond b (x ∷ []) []) h
+
+pub any-find : {X : Type 0} (p : X → Bool) (xs : List X) → list_any p xs ≡ is_some (find p xs)
+any-find p [] = refl
+any-find p (x ∷ xs) = go (p x) (any-find p xs)
+  where
+    go : (b : Bool) → list_any p xs ≡ is_some (find p xs) → (b || list_any p xs) ≡ is_some (cond b (Some x) (find p xs))
+    go true e = refl
+    go false e = e
+
+pub find-filter : {X : Type 0} (p q : X → Bool) (xs : List X) → find (λ x. p x && q x) xs ≡ find q (filter p xs)
+find-filter p q [] = refl
+find-filter p q (x ∷ xs) = go (p x) (find-filter p q xs)
+  where
+    go : (b : Bool) → find (λ y. p y && q y) xs ≡ find q (filter p xs)
+        → cond (b && q x) (Some x) (find (λ y. p y && q y) xs) ≡ find q (cond b (x ∷ filter p xs) (filter p xs))
+    go true e = ap (λ o. cond (q x) (Some x) o) e
+    go false e = e
+
+pub prefix-map : {X Y : Type 0} (p : Y → Bool) (f : X → Y) (xs : List X) → prefix_len p (map f xs) ≡ prefix_len (λ x. p (f x)) xs
+prefix-map p f [] = refl
+prefix-map p f (x ∷ xs) = ap (λ n. cond (p (f x)) (1 + n) 0) (prefix-map p f xs)
+
+pub map-map : {X Y Z : Type 0} (g : Y → Z) (f : X → Y) (xs : List X) → map g (map f xs) ≡ map (λ x. g (f x)) xs
+map-map g f [] = refl
+map-map g f (x ∷ xs) = ap (λ ys. g (f x) ∷ ys) (map-map g f xs)
+
+-- The first element that doesn't pass.
+pub get-prefix : {X : Type 0} (p : X → Bool) (xs : List X) → slice_get xs (prefix_len p xs) ≡ find (λ x. not (p x)) xs
+get-prefix p [] = refl
+get-prefix p (x ∷ xs) = go (p x) (get-prefix p xs)
+  where
+    go : (b : Bool) → slice_get xs (prefix_len p xs) ≡ find (λ y. not (p y)) xs
+        → slice_get (x ∷ xs) (cond b (1 + prefix_len p xs) 0) ≡ cond (not b) (Some x) (find (λ y. not (p y)) xs)
+    go true e = ap (slice_get (x ∷ xs)) (one-add (prefix_len p xs)) ∙ e
+    go false e = refl
+
+-- The last element, if there is one, is below n by what f tells of it.
+abbrev pub last_below : {X : Type 0} → (X → ℕ) → List X → ℕ → Bool
+last_below f xs n = elim (slice_get xs (length xs - 1)) [ None ↦ true | Some last ↦ nat_lt (f last) n ]
+
+pub last_below-map : {X Y : Type 0} (f : Y → ℕ) (g : X → Y) (xs : List X) (n : ℕ) → last_below f (map g xs) n ≡ last_below (λ x. f (g x)) xs n
+last_below-map {X = X} f g xs n =
+    ap (λ m. elim (slice_get (map g xs) (m - 1)) [ None ↦ true | Some last ↦ nat_lt (f last) n ]) (length-map xs g)
+    ∙ ap (λ o. elim o [ None ↦ true | Some last ↦ nat_lt (f last) n ]) (slice_get-map g xs (length xs - 1))
+    ∙ go (slice_get xs (length xs - 1))
+  where
+    go : (o : Option X) → elim (option_map g o) as (λ _. Bool) [ None ↦ true | Some last ↦ nat_lt (f last) n ] ≡ elim o as (λ _. Bool) [ None ↦ true | Some last ↦ nat_lt (f (g last)) n ]
+    go None = refl
+    go (Some x) = refl
+
+pub rising-push : (xs : List ℕ) (n : ℕ) → IsStrictlyIncreasing xs → last_below (λ x. x) xs n ≡ true → IsStrictlyIncreasing (xs ++ n ∷ [])
+rising-push xs n rises last k inside = ⊎_elim within at_end (cases_lt (k + 1) (length xs))
+  where
+    within : k + 1 < length xs → get_or (xs ++ n ∷ []) k 0 < get_or (xs ++ n ∷ []) (k + 1) 0
+    within h =
+        let first : get_or (xs ++ n ∷ []) k 0 ≡ get_or xs k 0 = get_or_append_left xs (n ∷ []) 0 k (omega arith) in
+        let second : get_or (xs ++ n ∷ []) (k + 1) 0 ≡ get_or xs (k + 1) 0 = get_or_append_left xs (n ∷ []) 0 (k + 1) h in
+        omega (arith, rises k h)
+
+    at_end : length xs ≤ k + 1 → get_or (xs ++ n ∷ []) k 0 < get_or (xs ++ n ∷ []) (k + 1) 0
+    at_end h =
+        let total : length (xs ++ n ∷ []) ≡ length xs + 1 = length-append xs (n ∷ []) in
+        let place : k + 1 ≡ length xs = omega arith in
+        let before : k ≡ length xs - 1 = omega arith in
+        let second : get_or (xs ++ n ∷ []) (k + 1) 0 ≡ n = ap (λ i. get_or (xs ++ n ∷ []) i 0) place ∙ get_or-append_seam xs n [] 0 in
+        let first : get_or (xs ++ n ∷ []) k 0 ≡ get_or xs k 0 = get_or_append_left xs (n ∷ []) 0 k (omega arith) in
+        let is_last : slice_get xs (length xs - 1) ≡ Some (get_or xs k 0) = ap (slice_get xs) (sym before) ∙ slice_get-get_or xs k 0 (omega arith) in
+        let below : get_or xs k 0 < n = ltb-true (get_or xs k 0) n (sym (ap (λ o. elim o as (λ _. Bool) [ None ↦ true | Some l ↦ nat_lt l n ]) is_last) ∙ last) in
+        omega arith

@@ -1,0 +1,126 @@
+-- Names of sources, and sets that grow by one source.
+use Rattle.std.proofs.Common.{◌≡◌, ◌≢◌, ℕ, zero, suc, ◌+◌, ◌<◌, ◌^◌, ◌||◌, Bool, true, false, nat_lt, List, [], ◌∷◌, subst, lit<, Option, Some, None, IfSome, IfNone, MatchOption, IsTrue, refl, sym, ap, ◌∙◌, arith}
+use Rattle.std.specs.List.{list_all}
+use Rattle.std.specs.Str.{bytes_eq, IsAscii, IsUtf8}
+use Rattle.std.proofs.lemmas.Bool.{ltb-true, and_parts}
+use Rattle.std.proofs.lemmas.Str.{IsUtf8-from_ascii}
+use Rattle.std.proofs.lemmas.Slice.Eq.{bytes_eq-Decides}
+use Rattle.pic_isa.specs.declared.sources.Source.{Source}
+use Rattle.pic_isa.specs.declared.sources.Source.TheVariants.{T0, Int, Psp, Ad, Ssp, Ccp1, Tmr2, Tmr1, Ee, Bcl, Ccp2}
+use Rattle.pic_isa.specs.Sources.{source_name, source_number}
+use Rattle.pic_regs.specs.Arrivals.{Sources, set_of, number_of}
+use Rattle.pic_regs.specs.Bytes.{one_if}
+use Rattle.pic_regs.proofs.ByteFacts.{one_if-small}
+use Rattle.pic_regs.proofs.ArrivalFacts.{number_of-set_of}
+use Rattle.arrival_script.specs.Scripts.{is_source}
+
+-- Names are ASCII.
+ascii : (bs : List ℕ) → list_all (λ b. nat_lt b 128) bs ≡ true → IsAscii bs
+ascii [] h i = lit< tt
+ascii (b ∷ bs) h zero = ltb-true b 128 (and_parts (nat_lt b 128) (list_all (λ b. nat_lt b 128) bs) h).0
+ascii (b ∷ bs) h (suc i) = ascii bs (and_parts (nat_lt b 128) (list_all (λ b. nat_lt b 128) bs) h).1 i
+
+name_ascii : (source : Source) → list_all (λ b. nat_lt b 128) (source_name source) ≡ true
+name_ascii T0 = refl
+name_ascii Int = refl
+name_ascii Psp = refl
+name_ascii Ad = refl
+name_ascii Ssp = refl
+name_ascii Ccp1 = refl
+name_ascii Tmr2 = refl
+name_ascii Tmr1 = refl
+name_ascii Ee = refl
+name_ascii Bcl = refl
+name_ascii Ccp2 = refl
+
+name_utf8 : (source : Source) → IsUtf8 (source_name source)
+name_utf8 source = IsUtf8-from_ascii (source_name source) (ascii (source_name source) (name_ascii source))
+
+-- A source's name is one, and what is no source's name isn't.
+pub is_source-name : (source : Source) → is_source (source_name source) ≡ true
+is_source-name T0 = refl
+is_source-name Int = refl
+is_source-name Psp = refl
+is_source-name Ad = refl
+is_source-name Ssp = refl
+is_source-name Ccp1 = refl
+is_source-name Tmr2 = refl
+is_source-name Tmr1 = refl
+is_source-name Ee = refl
+is_source-name Bcl = refl
+is_source-name Ccp2 = refl
+
+pub source-named : (name : List ℕ) (source : Source) → name ≡ source_name source → is_source name ≡ true
+source-named name source e = ap is_source e ∙ is_source-name source
+
+unlike : (xs ys : List ℕ) → xs ≢ ys → bytes_eq ys xs ≡ false
+unlike xs ys h = go (bytes_eq ys xs) (bytes_eq-Decides ys xs).0
+  where
+    go : (b : Bool) → (b ≡ true → ys ≡ xs) → b ≡ false
+    go true e = absurd (h (sym (e refl)))
+    go false e = refl
+
+pub no_source-named : (name : List ℕ) → ((source : Source) → name ≢ source_name source) → is_source name ≡ false
+no_source-named name none =
+    rw (unlike name (source_name T0) (none T0), unlike name (source_name Int) (none Int), unlike name (source_name Psp) (none Psp), unlike name (source_name Ad) (none Ad), unlike name (source_name Ssp) (none Ssp), unlike name (source_name Ccp1) (none Ccp1), unlike name (source_name Tmr2) (none Tmr2), unlike name (source_name Tmr1) (none Tmr1), unlike name (source_name Ee) (none Ee), unlike name (source_name Bcl) (none Bcl), unlike name (source_name Ccp2) (none Ccp2)) refl
+
+pub no_text-named : (name : List ℕ) → ¬ IsUtf8 name → is_source name ≡ false
+no_text-named name no_text = no_source-named name (λ source e. no_text (let P : List ℕ → Type 0 = λ bs. IsUtf8 bs in subst P (sym e) (name_utf8 source)))
+
+-- The source that a text names is that which its bytes name.
+pub named_answer : (field name : List ℕ) (r : Option Source) → name ≡ field → IfSome r (λ source. name ≡ source_name source) → IfNone r ((source : Source) → name ≢ source_name source)
+    → MatchOption r (is_source field ≡ false) (λ source. IsTrue (is_source field) × (field ≡ source_name source))
+named_answer field name None e some none = subst (λ w. is_source w ≡ false) e (no_source-named name none)
+named_answer field name (Some source) e some none = let is : field ≡ source_name source = sym e ∙ some in (source-named field source is, is)
+
+-- A set with one more source, as a number.
+abbrev pub with_source : Source → Sources → Sources
+with_source source set other = bytes_eq (source_name other) (source_name source) || set other
+
+pub number_of-more : (n : ℕ) (source : Source) → n < 2048 → set_of n source ≡ false → n + 2 ^ source_number source ≡ number_of (with_source source (set_of n))
+number_of-more n T0 below h = let e : one_if (set_of n T0) ≡ 0 = ap one_if h in omega (arith, number_of-set_of n below)
+number_of-more n Int below h = let e : one_if (set_of n Int) ≡ 0 = ap one_if h in omega (arith, number_of-set_of n below)
+number_of-more n Psp below h = let e : one_if (set_of n Psp) ≡ 0 = ap one_if h in omega (arith, number_of-set_of n below)
+number_of-more n Ad below h = let e : one_if (set_of n Ad) ≡ 0 = ap one_if h in omega (arith, number_of-set_of n below)
+number_of-more n Ssp below h = let e : one_if (set_of n Ssp) ≡ 0 = ap one_if h in omega (arith, number_of-set_of n below)
+number_of-more n Ccp1 below h = let e : one_if (set_of n Ccp1) ≡ 0 = ap one_if h in omega (arith, number_of-set_of n below)
+number_of-more n Tmr2 below h = let e : one_if (set_of n Tmr2) ≡ 0 = ap one_if h in omega (arith, number_of-set_of n below)
+number_of-more n Tmr1 below h = let e : one_if (set_of n Tmr1) ≡ 0 = ap one_if h in omega (arith, number_of-set_of n below)
+number_of-more n Ee below h = let e : one_if (set_of n Ee) ≡ 0 = ap one_if h in omega (arith, number_of-set_of n below)
+number_of-more n Bcl below h = let e : one_if (set_of n Bcl) ≡ 0 = ap one_if h in omega (arith, number_of-set_of n below)
+number_of-more n Ccp2 below h = let e : one_if (set_of n Ccp2) ≡ 0 = ap one_if h in omega (arith, number_of-set_of n below)
+
+pub number_of-same : (n : ℕ) (source : Source) → n < 2048 → set_of n source ≡ true → n ≡ number_of (with_source source (set_of n))
+number_of-same n T0 below h = let e : one_if (set_of n T0) ≡ 1 = ap one_if h in omega (arith, number_of-set_of n below)
+number_of-same n Int below h = let e : one_if (set_of n Int) ≡ 1 = ap one_if h in omega (arith, number_of-set_of n below)
+number_of-same n Psp below h = let e : one_if (set_of n Psp) ≡ 1 = ap one_if h in omega (arith, number_of-set_of n below)
+number_of-same n Ad below h = let e : one_if (set_of n Ad) ≡ 1 = ap one_if h in omega (arith, number_of-set_of n below)
+number_of-same n Ssp below h = let e : one_if (set_of n Ssp) ≡ 1 = ap one_if h in omega (arith, number_of-set_of n below)
+number_of-same n Ccp1 below h = let e : one_if (set_of n Ccp1) ≡ 1 = ap one_if h in omega (arith, number_of-set_of n below)
+number_of-same n Tmr2 below h = let e : one_if (set_of n Tmr2) ≡ 1 = ap one_if h in omega (arith, number_of-set_of n below)
+number_of-same n Tmr1 below h = let e : one_if (set_of n Tmr1) ≡ 1 = ap one_if h in omega (arith, number_of-set_of n below)
+number_of-same n Ee below h = let e : one_if (set_of n Ee) ≡ 1 = ap one_if h in omega (arith, number_of-set_of n below)
+number_of-same n Bcl below h = let e : one_if (set_of n Bcl) ≡ 1 = ap one_if h in omega (arith, number_of-set_of n below)
+number_of-same n Ccp2 below h = let e : one_if (set_of n Ccp2) ≡ 1 = ap one_if h in omega (arith, number_of-set_of n below)
+
+pub number_of-below : (set : Sources) → number_of set < 2048
+number_of-below set =
+    omega (arith, one_if-small (set T0), one_if-small (set Int), one_if-small (set Psp), one_if-small (set Ad), one_if-small (set Ssp), one_if-small (set Ccp1), one_if-small (set Tmr2), one_if-small (set Tmr1), one_if-small (set Ee), one_if-small (set Bcl), one_if-small (set Ccp2))
+
+-- No source is in 0.
+pub set_of-zero : (source : Source) → set_of 0 source ≡ false
+set_of-zero T0 = refl
+set_of-zero Int = refl
+set_of-zero Psp = refl
+set_of-zero Ad = refl
+set_of-zero Ssp = refl
+set_of-zero Ccp1 = refl
+set_of-zero Tmr2 = refl
+set_of-zero Tmr1 = refl
+set_of-zero Ee = refl
+set_of-zero Bcl = refl
+set_of-zero Ccp2 = refl
+
+pub set_of-some : (n : ℕ) (source : Source) → set_of n source ≡ true → 0 < n
+set_of-some zero source h = let e = set_of-zero source in cc
+set_of-some (suc n) source h = omega arith
