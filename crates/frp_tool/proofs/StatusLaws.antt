@@ -8,8 +8,9 @@ use Rattle.edge_io.specs.Counts.{Rose}
 use Rattle.counter_code.specs.declared.counters.Counter.{Counter}
 use Rattle.counter_code.specs.Counters.{Spells, program_of}
 use Rattle.frp_tool.specs.Lines.{usage, summary}
+use Rattle.frp_tool.specs.Outsides.{Outside}
 use Rattle.frp_tool.specs.Steps.{Ends}
-use Rattle.frp_tool.specs.Answers.{Answers, request_of, Outside, Request, Firmware, Verdict, Missing, ReadFailed, TooLong, NoForm, HexFailed, MapFailed, Done, OfSource, SourceSpells, HexIsWhole, MapIsWhole, OthersAsBefore, Cause, Left, status_of, line_of, Compiles}
+use Rattle.frp_tool.specs.Answers.{Answers, request_of, Request, Firmware, Verdict, Missing, ReadFailed, TooLong, NoForm, HexFailed, MapFailed, Done, OfSource, SourceSpells, HexIsWhole, MapIsWhole, OthersAsBefore, Cause, Left, status_of, line_of, Compiles}
 use Rattle.frp_tool.specs.Statuses.{DueOrYielded, TwoWhere, ThreeWhere, FaultWhere, OneWhere, FilesKept, DoneMeans, Complete, Promises}
 
 -- How a call ends, by its request.

@@ -10,16 +10,9 @@ use Rattle.counter_code.specs.Counters.{Spells, program_of}
 use Rattle.frp_tool.specs.declared.commands.Command.{Command}
 use Rattle.frp_tool.specs.declared.commands.Command.TheVariants.{Compile}
 use Rattle.frp_tool.specs.Commands.{command_of}
+use Rattle.frp_tool.specs.Outsides.{Outside}
 use Rattle.frp_tool.specs.Steps.{Ends, Has, SameButTwo, Stores}
 use Rattle.frp_tool.specs.Lines.{usage, named_line, form_line, summary}
-
--- What a call meets and leaves: the files and the bytes put, where they are told, and the counts of faults.
-pub record Outside : Type 0 where
-  pub files : Option Held
-  pub read_faults : ℕ
-  pub write_faults : ℕ
-  pub taken : Option (List ℕ)
-  pub put_faults : ℕ
 
 -- The names that `compile` is given.
 pub record Request : Type 0 where
@@ -31,7 +24,7 @@ abbrev pub where_compile : Option Command → Request → Option Request
 where_compile (Some Compile) r = Some r
 where_compile _ r = None
 
--- The request of words that form a `compile`. Other commands aren't built yet.
+-- The request of words that form a `compile`.
 abbrev pub request_of : List (List ℕ) → Option Request
 request_of (name ∷ a ∷ b ∷ c ∷ []) = where_compile (command_of (name ∷ a ∷ b ∷ c ∷ [])) (record { source = a; hex = b; map = c })
 request_of _ = None
@@ -144,7 +137,3 @@ CompilesText text hex map files files' writes writes' taken taken' puts puts' st
 -- second the text of a map, and the summary of that map.
 abbrev pub AreTexts : Counter → List ℕ → List ℕ → List ℕ → Type 0
 AreTexts c hex text line = (m : Map) × (text ≡ map_text m) × IsFirmware (program_of c) hex (map_text m) × (line ≡ summary m (program_of c))
-
--- What a call meets or leaves, from its parts.
-abbrev pub outside : Option Held → ℕ → ℕ → Option (List ℕ) → ℕ → Outside
-outside its_files reads writes its_taken puts = record { files = its_files; read_faults = reads; write_faults = writes; taken = its_taken; put_faults = puts }

@@ -9,8 +9,9 @@ use Rattle.stack_bound.specs.Firmware.{IsFirmware}
 use Rattle.counter_code.specs.declared.counters.Counter.{Counter}
 use Rattle.counter_code.specs.Counters.{Spells, program_of}
 use Rattle.frp_tool.specs.Lines.{summary}
+use Rattle.frp_tool.specs.Outsides.{Outside}
 use Rattle.frp_tool.specs.Steps.{Has}
-use Rattle.frp_tool.specs.Answers.{Answers, request_of, Outside, Request, OfSource, SourceSpells, OthersAsBefore}
+use Rattle.frp_tool.specs.Answers.{Answers, request_of, Request, OfSource, SourceSpells, OthersAsBefore}
 
 -- The status is this one, or 5 since its put failed, or 6 since memory ran out.
 abbrev pub DueOrYielded : ℕ → ℕ → Type 0

@@ -6,10 +6,13 @@
 #![tactic(auto)]
 
 mod commands;
+mod fault_lines;
 mod first_form;
+mod inputs;
 mod items;
 mod phrases;
 mod requests;
+mod says;
 mod source;
 mod tool;
 

@@ -1,14 +1,18 @@
 ghost use Rattle.std.specs.Prelude.{◌≡◌, ◌≢◌, ℕ, List, [], ◌∷◌, ◌++◌, ◌≤◌, IfOk, OnOk, MatchOption, string_bytes, codes};
 ghost use Rattle.std.specs.Fmt.{decimal};
 ghost use Rattle.counter_code.specs.Counters.{IsCounter};
-ghost use Rattle.frp_tool.specs.Lines.{named_line, summary_of};
-ghost use Rattle.frp_tool.specs.Answers.{Answers, AreTexts, Compiles, CompilesText, outside};
+ghost use Rattle.frp_tool.specs.Lines.{summary_of};
+ghost use Rattle.frp_tool.specs.Answers.{Answers, AreTexts, Compiles, CompilesText};
+ghost use Rattle.frp_tool.specs.Outsides.{outside};
 ghost use Rattle.frp_tool.specs.Statuses.{Promises};
-ghost use Rattle.frp_tool.specs.Steps.{Ends, Stores, StoresMap};
+ghost use Rattle.frp_tool.specs.Steps.{Stores, StoresMap};
 
 use crate::requests::request;
+use crate::says::{
+    DONE, MISSING, NO_COMMAND, NO_MEMORY, OUTSIDE_FAILED, READ_FAILED, REFUSED, say, say_name,
+};
 use crate::source::program;
-use edge_io::{Files, PutFault, ReadFault, Sink, WriteFault};
+use edge_io::{Files, ReadFault, Sink, WriteFault};
 use counter_code::Counter;
 use firmware::{Limits, limits_of};
 use frp_tree::{List as Bytes, Text};
@@ -16,57 +20,12 @@ use map_file::Map;
 use std::alloc::{AllocError, Global};
 use std::fmt::Write;
 
-/// Statuses.
-const DONE: u8 = 0;
-
-const REFUSED: u8 = 1;
-
-const NO_COMMAND: u8 = 2;
-
-const MISSING: u8 = 3;
-
-const READ_FAILED: u8 = 4;
-
-const OUTSIDE_FAILED: u8 = 5;
-
-const NO_MEMORY: u8 = 6;
-
 /// What is put where the words form no command that is built.
 const USAGE: &str =
     "usage: efrp check SRC / compile SRC HEX MAP / run HEX MAP SCRIPT / model SRC EVENTS / big N HEX MAP\n";
 
 /// The levels of interrupts that the chip's return stack has room for.
 const MOST_LEVELS: u32 = 8;
-
-// Puts a line, and answers the status that was due, or that of the failure to put it.
-fn say<S: Sink>(alloc: Global, out: &mut S, due: u8, line: &str) -> u8
-    ensures ends { Ends (S.taken out.old) (S.taken out.new) (S.put_faults out.old) (S.put_faults out.new) due line.now result }
-    ensures count { S.put_faults out.old ≤ S.put_faults out.new }
-{
-    match out.put(alloc, line.as_bytes()) {
-        Ok(()) => due,
-        Err(PutFault::Failed) => OUTSIDE_FAILED,
-        Err(PutFault::Memory) => NO_MEMORY,
-    }
-}
-
-fn line_with_name(alloc: Global, front: &str, name: &Text) -> Result<String, AllocError>
-    ensures { IfOk result (λ line. string_bytes line ≡ named_line front.now name.now) }
-{
-    let name = name.as_str();
-    format!(in alloc; "{front}{name}\n")
-}
-
-// Puts a line that ends in a name.
-fn say_name<S: Sink>(alloc: Global, out: &mut S, due: u8, front: &str, name: &Text) -> u8
-    ensures ends { Ends (S.taken out.old) (S.taken out.new) (S.put_faults out.old) (S.put_faults out.new) due (named_line front.now name.now) result }
-    ensures count { S.put_faults out.old ≤ S.put_faults out.new }
-{
-    match line_with_name(alloc, front, name) {
-        Ok(line) => say(alloc, out, due, line.as_str()),
-        Err(AllocError) => NO_MEMORY,
-    }
-}
 
 // Writes the map, and then puts a line.
 fn store_map<F: Files, S: Sink>(
