@@ -6,4 +6,7 @@ pub mod FieldFacts
 pub mod ListFacts
 pub mod NameFacts
 pub mod ReadFacts
+pub mod RunFacts
+pub mod SendFacts
 pub mod SourceFacts
+pub mod TraceFacts

@@ -84,7 +84,7 @@ fn bit_of(source: Source) -> u16
 }
 
 // Whether a set has a source.
-fn has(set: u16, source: Source) -> bool
+pub(crate) fn has(set: u16, source: Source) -> bool
     ensures { result ≡ set_of set source }
 {
     set / bit_of(source) % 2 == 1

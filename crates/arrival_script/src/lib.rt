@@ -7,8 +7,14 @@
 mod drafts;
 mod entries;
 mod fields;
+mod lines;
 mod reader;
 mod scripts;
+mod traces;
 
 pub use reader::read_script;
 pub use scripts::{Arrival, Cause, Script, ScriptFault};
+pub use traces::{TraceFault, trace};
+
+#[cfg(test)]
+mod tests;
