@@ -13,6 +13,8 @@ use Rattle.frp_tool.specs.Commands.{command_of}
 use Rattle.frp_tool.specs.Outsides.{Outside}
 use Rattle.frp_tool.specs.Steps.{Ends, Has, SameButTwo, Stores}
 use Rattle.frp_tool.specs.Lines.{usage, named_line, form_line, summary}
+use Rattle.frp_tool.specs.RunFaults.{RunRequest, run_request_of}
+use Rattle.frp_tool.specs.Runs.{Runs}
 
 -- The names that `compile` is given.
 pub record Request : Type 0 where
@@ -120,10 +122,15 @@ Compiles r before after status =
     Exhausted r before after status
     ⊎ ((v : Verdict) × Cause r before after v × Left r before.files after.files v × Ends before.taken after.taken before.put_faults after.put_faults (status_of v) (line_of r v) status)
 
--- How any call ends. Words that form no command that is built are answered by the usage line.
+-- How a call ends whose words form no `compile`: a `run`; or, where they form no command that is built, with the usage
+-- line.
+abbrev pub AnswersOther : Option RunRequest → Outside → Outside → ℕ → Type 0
+AnswersOther request before after status =
+    MatchOption request (KeepsFiles before.files after.files × Ends before.taken after.taken before.put_faults after.put_faults 2 usage status) (λ r. Runs r before after status)
+
+-- How any call ends.
 abbrev pub Answers : List (List ℕ) → Outside → Outside → ℕ → Type 0
-Answers words before after status =
-    MatchOption (request_of words) (KeepsFiles before.files after.files × Ends before.taken after.taken before.put_faults after.put_faults 2 usage status) (λ r. Compiles r before after status)
+Answers words before after status = MatchOption (request_of words) (AnswersOther (run_request_of words) before after status) (λ r. Compiles r before after status)
 
 -- How `compile` goes on with a text that was read: it spells no program of the first form; memory ran out before the
 -- writes; or it spells one, whose firmware is written, and the summary of its map is put.

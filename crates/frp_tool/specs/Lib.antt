@@ -5,5 +5,7 @@ pub mod Lines
 pub mod Outsides
 pub mod RunFaults
 pub mod RunLines
+pub mod RunStatuses
+pub mod Runs
 pub mod Statuses
 pub mod Steps

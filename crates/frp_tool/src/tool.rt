@@ -2,12 +2,14 @@ ghost use Rattle.std.specs.Prelude.{◌≡◌, ◌≢◌, ℕ, List, [], ◌∷�
 ghost use Rattle.std.specs.Fmt.{decimal};
 ghost use Rattle.counter_code.specs.Counters.{IsCounter};
 ghost use Rattle.frp_tool.specs.Lines.{summary_of};
-ghost use Rattle.frp_tool.specs.Answers.{Answers, AreTexts, Compiles, CompilesText};
+ghost use Rattle.frp_tool.specs.Answers.{Answers, AnswersOther, AreTexts, Compiles, CompilesText};
 ghost use Rattle.frp_tool.specs.Outsides.{outside};
 ghost use Rattle.frp_tool.specs.Statuses.{Promises};
+ghost use Rattle.frp_tool.specs.RunFaults.{run_request_of};
 ghost use Rattle.frp_tool.specs.Steps.{Stores, StoresMap};
 
-use crate::requests::request;
+use crate::requests::{request, run_request};
+use crate::runs::run;
 use crate::says::{
     DONE, MISSING, NO_COMMAND, NO_MEMORY, OUTSIDE_FAILED, READ_FAILED, REFUSED, say, say_name,
 };
@@ -169,6 +171,23 @@ fn compile<F: Files, S: Sink>(
     }
 }
 
+// Does the command that the words form, which is no `compile`, and answers its status.
+fn answered_other<F: Files, S: Sink>(
+    alloc: Global,
+    words: &[Text],
+    files: &mut F,
+    out: &mut S,
+) -> u8
+    ensures { AnswersOther (run_request_of words.now)
+        (outside (F.files files.old) (F.read_faults files.old) (F.write_faults files.old) (S.taken out.old) (S.put_faults out.old))
+        (outside (F.files files.new) (F.read_faults files.new) (F.write_faults files.new) (S.taken out.new) (S.put_faults out.new)) result }
+{
+    match run_request(words) {
+        Some(names) => run(alloc, names.hex, names.map, names.script, files, out),
+        None => say(alloc, out, NO_COMMAND, USAGE),
+    }
+}
+
 // Does the command that the words form, and answers its status.
 fn answered<F: Files, S: Sink>(alloc: Global, words: &[Text], files: &mut F, out: &mut S) -> u8
     ensures { Answers words.now
@@ -177,7 +196,7 @@ fn answered<F: Files, S: Sink>(alloc: Global, words: &[Text], files: &mut F, out
 {
     match request(words) {
         Some(names) => compile(alloc, names.source, names.hex, names.map, files, out),
-        None => say(alloc, out, NO_COMMAND, USAGE),
+        None => answered_other(alloc, words, files, out),
     }
 }
 
