@@ -7,8 +7,9 @@ use Rattle.edge_io.specs.declared.faults.ReadFault.TheVariants as read
 use Rattle.map_file.specs.MapText.{map_text}
 use Rattle.counter_code.specs.Counters.{Spells, program_of}
 use Rattle.frp_tool.specs.Lines.{summary}
+use Rattle.frp_tool.specs.Outsides.{outside}
 use Rattle.frp_tool.specs.Steps.{Ends, Stores}
-use Rattle.frp_tool.specs.Answers.{Request, Firmware, NoForm, HexFailed, MapFailed, Done, OfSource, Compiles, CompilesText, outside}
+use Rattle.frp_tool.specs.Answers.{Request, Firmware, NoForm, HexFailed, MapFailed, Done, OfSource, Compiles, CompilesText}
 
 pub keeps_refl : (files : Option Held) → KeepsFiles files files
 keeps_refl None = tt

@@ -1,5 +1,5 @@
 -- What each status says, from how a call ends.
-use Rattle.std.proofs.Common.{◌≡◌, ℕ, ◌<◌, List, Option, Some, None, length, ◌⊎◌, inl, inr, arith, refl, sym, ◌∙◌, subst}
+use Rattle.std.proofs.Common.{◌≡◌, ℕ, ◌<◌, List, [], ◌∷◌, Option, Some, None, length, ◌⊎◌, inl, inr, arith, refl, sym, ◌∙◌, subst}
 use Rattle.std.specs.Prelude.{MatchOption}
 use Rattle.edge_io.specs.declared.outside.TheConstants.{LONGEST_FILE}
 use Rattle.edge_io.specs.Files.{Held, BothTold, IfTold, KeepsFiles}
@@ -8,14 +8,29 @@ use Rattle.edge_io.specs.Counts.{Rose}
 use Rattle.counter_code.specs.declared.counters.Counter.{Counter}
 use Rattle.counter_code.specs.Counters.{Spells, program_of}
 use Rattle.frp_tool.specs.Lines.{usage, summary}
-use Rattle.frp_tool.specs.Steps.{Ends}
-use Rattle.frp_tool.specs.Answers.{Answers, request_of, Outside, Request, Firmware, Verdict, Missing, ReadFailed, TooLong, NoForm, HexFailed, MapFailed, Done, OfSource, SourceSpells, HexIsWhole, MapIsWhole, OthersAsBefore, Cause, Left, status_of, line_of, Compiles}
-use Rattle.frp_tool.specs.Statuses.{DueOrYielded, TwoWhere, ThreeWhere, FaultWhere, OneWhere, FilesKept, DoneMeans, Complete, Promises}
+use Rattle.frp_tool.specs.Outsides.{Outside}
+use Rattle.frp_tool.specs.Steps.{Ends, DueOrYielded}
+use Rattle.frp_tool.specs.declared.commands.Command.{Command}
+use Rattle.frp_tool.specs.declared.commands.Command.TheVariants.{Check, Compile, Run, Model, Big}
+use Rattle.frp_tool.specs.Commands.{command_of}
+use Rattle.frp_tool.specs.RunFaults.{RunRequest, run_request_of, where_run}
+use Rattle.frp_tool.specs.RunStatuses.{RunPromises}
+use Rattle.frp_tool.proofs.RunLaws.{run_not_two, run_four, run_five, run_done, run_promises, none_promised}
+use Rattle.frp_tool.specs.Answers.{Answers, AnswersOther, request_of, where_compile, Request, Firmware, Verdict, Missing, ReadFailed, TooLong, NoForm, HexFailed, MapFailed, Done, OfSource, SourceSpells, HexIsWhole, MapIsWhole, OthersAsBefore, Cause, Left, status_of, line_of, Compiles}
+use Rattle.frp_tool.specs.Statuses.{TwoWhere, ThreeWhere, FaultWhere, OneWhere, FilesKept, DoneMeans, Complete, Promises}
 
--- How a call ends, by its request.
-abbrev EndsSo : Option Request → Outside → Outside → ℕ → Type 0
-EndsSo request before after status =
-    MatchOption request (KeepsFiles before.files after.files × Ends before.taken after.taken before.put_faults after.put_faults 2 usage status) (λ r. Compiles r before after status)
+-- How a call ends, by its request, as a `compile` or as a `run`.
+abbrev EndsSo : Option Request → Option RunRequest → Outside → Outside → ℕ → Type 0
+EndsSo request run before after status = MatchOption request (AnswersOther run before after status) (λ r. Compiles r before after status)
+
+no_run : (r : RunRequest) → Some r ≡ None → ⊥
+no_run r e = cc
+
+no_compile : (r : Request) → Some r ≡ None → ⊥
+no_compile r e = cc
+
+no_request : (r : Request) → None ≡ Some r → ⊥
+no_request r e = cc
 
 due : (taken taken' : Option (List ℕ)) (puts puts' want : ℕ) (line : List ℕ) (status : ℕ) → Ends taken taken' puts puts' want line status → DueOrYielded want status
 due taken taken' puts puts' want line status (inl h) = inl h.0
@@ -34,9 +49,10 @@ verdict : (r : Request) (before after : Outside) (status : ℕ) → Compiles r b
 verdict r before after status (inl h) small = absurd (omega (arith, h.0))
 verdict r before after status (inr (v, cause, left, ends)) small = let s = settled _ _ _ _ _ _ _ ends small in (v, cause, left, s.0, s.1)
 
-pub two_where : (request : Option Request) (before after : Outside) (status : ℕ) → EndsSo request before after status → TwoWhere request status
-two_where None before after status h = (λ e. refl, λ e. due _ _ _ _ _ _ _ h.1)
-two_where (Some r) before after status h = (λ e. absurd (not_two (verdict r before after status h (omega (arith, e))) e), λ e. cc)
+pub two_where : (request : Option Request) (run : Option RunRequest) (before after : Outside) (status : ℕ) → EndsSo request run before after status → TwoWhere request run status
+two_where None None before after status h = (λ e. (refl, refl), λ e e'. due _ _ _ _ _ _ _ h.1)
+two_where None (Some r) before after status h = (λ e. absurd (run_not_two r before after status h e), λ e e'. absurd (no_run r e'))
+two_where (Some r) run before after status h = (λ e. absurd (not_two (verdict r before after status h (omega (arith, e))) e), λ e e'. absurd (no_compile r e))
   where
     not_two : (v : Verdict) × Cause r before after v × Left r before.files after.files v × (status ≡ status_of v) × Appends before.taken after.taken (line_of r v) → status ≡ 2 → ⊥
     not_two (Missing, cause, left, is, put) e = omega arith
@@ -168,9 +184,9 @@ module _ (r : Request) (before after : Outside) (status : ℕ) where
   all_done held text c told is spells reads writes (MapFailed d) cause = absurd (writes cause.1)
   all_done held text c told is spells reads writes (Done d) cause = refl
 
-pub three_where : (request : Option Request) (before after : Outside) (status : ℕ) → EndsSo request before after status → ThreeWhere request before status
-three_where None before after status h = λ r e. cc
-three_where (Some r0) before after status h = λ r e.
+pub three_where : (request : Option Request) (run : Option RunRequest) (before after : Outside) (status : ℕ) → EndsSo request run before after status → ThreeWhere request before status
+three_where None run before after status h = λ r e. cc
+three_where (Some r0) run before after status h = λ r e.
     subst (λ (r : Request). (status ≡ 3 → IfTold before.files (λ held. held r.source ≡ None)) × ((held : Held) → before.files ≡ Some held → held r.source ≡ None → DueOrYielded 3 status)) (one_request r0 r e)
     ((λ three. let v = verdict r0 before after status h (omega (arith, three)) in three_only r0 before after status v.0 v.1 v.3 three), λ held told none. yields held told none h)
   where
@@ -178,14 +194,15 @@ three_where (Some r0) before after status h = λ r e.
     yields held told none (inl exhausted) = inr (inr exhausted.0)
     yields held told none (inr (v, cause, left, ends)) = three_when r0 before after status held told none v cause (due _ _ _ _ _ _ _ ends)
 
-pub fault_where : (request : Option Request) (before after : Outside) (status : ℕ) → EndsSo request before after status → FaultWhere before after status
-fault_where None before after status h = ((λ four. absurd (omega (arith, (settled _ _ _ _ _ _ _ h.1 (omega (arith, four))).0))), λ five. inr (put_rose h.1 five))
+pub fault_where : (request : Option Request) (run : Option RunRequest) (before after : Outside) (status : ℕ) → EndsSo request run before after status → FaultWhere before after status
+fault_where None (Some r) before after status h = (run_four r before after status h, λ five. inr (run_five r before after status h five))
+fault_where None None before after status h = ((λ four. absurd (omega (arith, (settled _ _ _ _ _ _ _ h.1 (omega (arith, four))).0))), λ five. inr (put_rose h.1 five))
   where
     put_rose : Ends before.taken after.taken before.put_faults after.put_faults 2 usage status → status ≡ 5 → Rose before.put_faults after.put_faults
     put_rose (inl g) five = absurd (omega (arith, g.0))
     put_rose (inr (inl g)) five = g.1
     put_rose (inr (inr g)) five = absurd (omega (arith, g.0))
-fault_where (Some r) before after status h = ((λ four. let v = verdict r before after status h (omega (arith, four)) in four_only r before after status v.0 v.1 v.3 four), λ five. five_from h five)
+fault_where (Some r) run before after status h = ((λ four. let v = verdict r before after status h (omega (arith, four)) in four_only r before after status v.0 v.1 v.3 four), λ five. five_from h five)
   where
     by_end : (v : Verdict) → Cause r before after v → Ends before.taken after.taken before.put_faults after.put_faults (status_of v) (line_of r v) status → status ≡ 5 → Rose before.write_faults after.write_faults ⊎ Rose before.put_faults after.put_faults
     by_end v cause (inl g) five = inl (five_only r before after status v cause g.0 five)
@@ -196,15 +213,16 @@ fault_where (Some r) before after status h = ((λ four. let v = verdict r before
     five_from (inl exhausted) five = absurd (omega (arith, exhausted.0))
     five_from (inr (v, cause, left, ends)) five = by_end v cause ends five
 
-pub one_where : (request : Option Request) (before after : Outside) (status : ℕ) → EndsSo request before after status → OneWhere request before status
-one_where None before after status h = λ r e one. cc
-one_where (Some r0) before after status h = λ r e one.
+pub one_where : (request : Option Request) (run : Option RunRequest) (before after : Outside) (status : ℕ) → EndsSo request run before after status → OneWhere request before status
+one_where None run before after status h = λ r e one. cc
+one_where (Some r0) run before after status h = λ r e one.
     subst (λ (r : Request). OfSource r before (λ text. (LONGEST_FILE < length text) ⊎ ((c : Counter) → Spells text c → ⊥))) (one_request r0 r e)
     (let v = verdict r0 before after status h (omega (arith, one)) in one_only r0 before after status v.0 v.1 v.3 one)
 
-pub files_kept : (request : Option Request) (before after : Outside) (status : ℕ) → EndsSo request before after status → FilesKept request before after status
-files_kept None before after status h = ((λ some small. h.0), λ r e. cc)
-files_kept (Some r0) before after status h = (
+pub files_kept : (request : Option Request) (run : Option RunRequest) (before after : Outside) (status : ℕ) → EndsSo request run before after status → FilesKept request before after status
+files_kept None (Some r) before after status h = ((λ some small. h.0), λ r' e. cc)
+files_kept None None before after status h = ((λ some small. h.0), λ r e. cc)
+files_kept (Some r0) run before after status h = (
   (λ some small. let v = verdict r0 before after status h small in kept r0 before after status v.0 v.2 v.3 some small),
   λ r e. subst (λ (r : Request). BothTold before.files after.files (OthersAsBefore r)) (one_request r0 r e) (rest h),
 )
@@ -214,14 +232,15 @@ files_kept (Some r0) before after status h = (
     rest (inl (six, same, inr part)) = both_map before.files after.files _ _ (λ old new h name one two. h.1 name one) part.2
     rest (inr (v, cause, left, ends)) = others r0 before after status v left
 
-pub done_means : (request : Option Request) (before after : Outside) (status : ℕ) → EndsSo request before after status → DoneMeans request before after status
-done_means None before after status h = λ zero. absurd (omega (arith, (settled _ _ _ _ _ _ _ h.1 (omega (arith, zero))).0))
-done_means (Some r) before after status h = λ zero.
-    let v = verdict r before after status h (omega (arith, zero)) in let d = done r before after status v.0 v.1 v.2 v.3 v.4 zero in (r, refl, d.0.counter, d.1, d.0.hex, d.0.map, d.0.is_firmware, d.2, d.3)
+pub done_means : (request : Option Request) (run : Option RunRequest) (before after : Outside) (status : ℕ) → EndsSo request run before after status → DoneMeans request run before after status
+done_means None (Some r) before after status h = λ zero. inr (run_done r before after status h zero)
+done_means None None before after status h = λ zero. absurd (omega (arith, (settled _ _ _ _ _ _ _ h.1 (omega (arith, zero))).0))
+done_means (Some r) run before after status h = λ zero.
+    let v = verdict r before after status h (omega (arith, zero)) in let d = done r before after status v.0 v.1 v.2 v.3 v.4 zero in inl (r, refl, d.0.counter, d.1, d.0.hex, d.0.map, d.0.is_firmware, d.2, d.3)
 
-pub complete : (request : Option Request) (before after : Outside) (status : ℕ) → EndsSo request before after status → Complete request before after status
-complete None before after status h = λ r held text c e. cc
-complete (Some r0) before after status h = λ r held text c e told is spells reads writes puts.
+pub complete : (request : Option Request) (run : Option RunRequest) (before after : Outside) (status : ℕ) → EndsSo request run before after status → Complete request before after status
+complete None run before after status h = λ r held text c e. cc
+complete (Some r0) run before after status h = λ r held text c e told is spells reads writes puts.
     let same : r ≡ r0 = sym (one_request r0 r e) in
     let at : held r0.source ≡ Some text = subst (λ (x : Request). held x.source ≡ Some text) same is in
     ending held text c told at spells reads writes puts h
@@ -236,14 +255,37 @@ complete (Some r0) before after status h = λ r held text c e told is spells rea
     ending held text c told at spells reads writes puts (inl exhausted) = inr exhausted.0
     ending held text c told at spells reads writes puts (inr (v, cause, left, ends)) = by_end (status_of v) (line_of r0 v) (all_done r0 before after status held text c told at spells reads writes v cause) puts ends
 
+-- Words form one command at most.
+one_command : (c : Option Command) (r0 r : Request) (run : RunRequest) → where_compile c r0 ≡ Some r → where_run c run ≡ None
+one_command None r0 r run e = refl
+one_command (Some Check) r0 r run e = refl
+one_command (Some Compile) r0 r run e = refl
+one_command (Some Run) r0 r run e = absurd (no_request r e)
+one_command (Some Model) r0 r run e = refl
+one_command (Some (Big n)) r0 r run e = refl
+
+no_run_too : (words : List (List ℕ)) (r : Request) → request_of words ≡ Some r → run_request_of words ≡ None
+no_run_too [] r e = refl
+no_run_too (a ∷ []) r e = refl
+no_run_too (a ∷ b ∷ []) r e = refl
+no_run_too (a ∷ b ∷ c ∷ []) r e = refl
+no_run_too (a ∷ b ∷ c ∷ d ∷ []) r e = one_command (command_of (a ∷ b ∷ c ∷ d ∷ [])) (record { source = b; hex = c; map = d }) r (record { hex = b; map = c; script = d }) e
+no_run_too (a ∷ b ∷ c ∷ d ∷ x ∷ more) r e = refl
+
+run_too : (request : Option Request) (run : Option RunRequest) (before after : Outside) (status : ℕ) → ((r : Request) → request ≡ Some r → run ≡ None) → EndsSo request run before after status → RunPromises run before after status
+run_too None None before after status alone h = none_promised before after status
+run_too None (Some r) before after status alone h = run_promises r before after status h
+run_too (Some r) run before after status alone h = subst (λ (x : Option RunRequest). RunPromises x before after status) (sym (alone r refl)) (none_promised before after status)
+
 pub promises : (words : List (List ℕ)) (before after : Outside) (status : ℕ) → Answers words before after status → Promises words before after status
 promises words before after status h = record {
   answer = h;
-  done = done_means (request_of words) before after status h;
-  one = one_where (request_of words) before after status h;
-  two = two_where (request_of words) before after status h;
-  three = three_where (request_of words) before after status h;
-  faults = fault_where (request_of words) before after status h;
-  files = files_kept (request_of words) before after status h;
-  complete = complete (request_of words) before after status h;
+  done = done_means (request_of words) (run_request_of words) before after status h;
+  one = one_where (request_of words) (run_request_of words) before after status h;
+  two = two_where (request_of words) (run_request_of words) before after status h;
+  three = three_where (request_of words) (run_request_of words) before after status h;
+  faults = fault_where (request_of words) (run_request_of words) before after status h;
+  files = files_kept (request_of words) (run_request_of words) before after status h;
+  complete = complete (request_of words) (run_request_of words) before after status h;
+  run = run_too (request_of words) (run_request_of words) before after status (no_run_too words) h;
 }

@@ -10,16 +10,11 @@ use Rattle.counter_code.specs.Counters.{Spells, program_of}
 use Rattle.frp_tool.specs.declared.commands.Command.{Command}
 use Rattle.frp_tool.specs.declared.commands.Command.TheVariants.{Compile}
 use Rattle.frp_tool.specs.Commands.{command_of}
+use Rattle.frp_tool.specs.Outsides.{Outside}
 use Rattle.frp_tool.specs.Steps.{Ends, Has, SameButTwo, Stores}
 use Rattle.frp_tool.specs.Lines.{usage, named_line, form_line, summary}
-
--- What a call meets and leaves: the files and the bytes put, where they are told, and the counts of faults.
-pub record Outside : Type 0 where
-  pub files : Option Held
-  pub read_faults : ℕ
-  pub write_faults : ℕ
-  pub taken : Option (List ℕ)
-  pub put_faults : ℕ
+use Rattle.frp_tool.specs.RunFaults.{RunRequest, run_request_of}
+use Rattle.frp_tool.specs.Runs.{Runs}
 
 -- The names that `compile` is given.
 pub record Request : Type 0 where
@@ -31,7 +26,7 @@ abbrev pub where_compile : Option Command → Request → Option Request
 where_compile (Some Compile) r = Some r
 where_compile _ r = None
 
--- The request of words that form a `compile`. Other commands aren't built yet.
+-- The request of words that form a `compile`.
 abbrev pub request_of : List (List ℕ) → Option Request
 request_of (name ∷ a ∷ b ∷ c ∷ []) = where_compile (command_of (name ∷ a ∷ b ∷ c ∷ [])) (record { source = a; hex = b; map = c })
 request_of _ = None
@@ -127,10 +122,15 @@ Compiles r before after status =
     Exhausted r before after status
     ⊎ ((v : Verdict) × Cause r before after v × Left r before.files after.files v × Ends before.taken after.taken before.put_faults after.put_faults (status_of v) (line_of r v) status)
 
--- How any call ends. Words that form no command that is built are answered by the usage line.
+-- How a call ends whose words form no `compile`: a `run`; or, where they form no command that is built, with the usage
+-- line.
+abbrev pub AnswersOther : Option RunRequest → Outside → Outside → ℕ → Type 0
+AnswersOther request before after status =
+    MatchOption request (KeepsFiles before.files after.files × Ends before.taken after.taken before.put_faults after.put_faults 2 usage status) (λ r. Runs r before after status)
+
+-- How any call ends.
 abbrev pub Answers : List (List ℕ) → Outside → Outside → ℕ → Type 0
-Answers words before after status =
-    MatchOption (request_of words) (KeepsFiles before.files after.files × Ends before.taken after.taken before.put_faults after.put_faults 2 usage status) (λ r. Compiles r before after status)
+Answers words before after status = MatchOption (request_of words) (AnswersOther (run_request_of words) before after status) (λ r. Compiles r before after status)
 
 -- How `compile` goes on with a text that was read: it spells no program of the first form; memory ran out before the
 -- writes; or it spells one, whose firmware is written, and the summary of its map is put.
@@ -144,7 +144,3 @@ CompilesText text hex map files files' writes writes' taken taken' puts puts' st
 -- second the text of a map, and the summary of that map.
 abbrev pub AreTexts : Counter → List ℕ → List ℕ → List ℕ → Type 0
 AreTexts c hex text line = (m : Map) × (text ≡ map_text m) × IsFirmware (program_of c) hex (map_text m) × (line ≡ summary m (program_of c))
-
--- What a call meets or leaves, from its parts.
-abbrev pub outside : Option Held → ℕ → ℕ → Option (List ℕ) → ℕ → Outside
-outside its_files reads writes its_taken puts = record { files = its_files; read_faults = reads; write_faults = writes; taken = its_taken; put_faults = puts }

@@ -2,5 +2,10 @@ pub mod Answers
 pub mod Commands
 pub mod Items
 pub mod Lines
+pub mod Outsides
+pub mod RunFaults
+pub mod RunLines
+pub mod RunStatuses
+pub mod Runs
 pub mod Statuses
 pub mod Steps

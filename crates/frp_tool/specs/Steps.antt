@@ -13,6 +13,10 @@ Ends taken taken' faults faults' due line status =
     ⊎ ((status ≡ 5) × Rose faults faults' × AppendsFront taken taken' line)
     ⊎ ((status ≡ 6) × (taken ≡ taken'))
 
+-- The status is this one, or 5 since its put failed, or 6 since memory ran out.
+abbrev pub DueOrYielded : ℕ → ℕ → Type 0
+DueOrYielded due status = (status ≡ due) ⊎ (status ≡ 5) ⊎ (status ≡ 6)
+
 -- The last steps of a command that writes: the map is written, and a line is put.
 abbrev pub StoresMap : List ℕ → List ℕ → List ℕ → Option Held → Option Held → ℕ → ℕ → Option (List ℕ) → Option (List ℕ) → ℕ → ℕ → ℕ → Type 0
 StoresMap name bytes line files files' writes writes' taken taken' puts puts' status =

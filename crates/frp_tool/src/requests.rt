@@ -1,6 +1,7 @@
 ghost use Rattle.std.specs.Prelude.{◌≡◌, ◌≢◌, ◌↔◌, Some, None, IsTrue, MatchOption};
 ghost use Rattle.frp_tool.specs.Answers.{request_of};
 ghost use Rattle.frp_tool.specs.Commands.{command_of};
+ghost use Rattle.frp_tool.specs.RunFaults.{run_request_of};
 
 use crate::commands::{Command, command_in};
 use frp_tree::Text;
@@ -31,4 +32,32 @@ pub fn request<'a>(words: &'a [Text]) -> Option<Names<'a>>
         return None;
     };
     Some(Names { source, hex, map })
+}
+
+/// The names that `run` is given.
+#[derive(Clone, Copy, Debug)]
+pub struct RunNames<'a> {
+    pub hex: &'a Text,
+    pub map: &'a Text,
+    pub script: &'a Text,
+}
+
+fn is_run(words: &[Text]) -> bool
+    ensures { IsTrue result ↔ (command_of words.now ≡ Some Command.Run) }
+{
+    matches!(command_in(words), Some(Command::Run))
+}
+
+/// The names of a `run`, where the words form one.
+pub fn run_request<'a>(words: &'a [Text]) -> Option<RunNames<'a>>
+    ensures { MatchOption result (run_request_of words.now ≡ None)
+        (λ names. run_request_of words.now ≡ Some (record { hex = names.hex.now; map = names.map.now; script = names.script.now })) }
+{
+    if !is_run(words) {
+        return None;
+    }
+    let [_, hex, map, script] = words else {
+        return None;
+    };
+    Some(RunNames { hex, map, script })
 }

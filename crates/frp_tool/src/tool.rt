@@ -1,35 +1,26 @@
 ghost use Rattle.std.specs.Prelude.{◌≡◌, ◌≢◌, ℕ, List, [], ◌∷◌, ◌++◌, ◌≤◌, IfOk, OnOk, MatchOption, string_bytes, codes};
 ghost use Rattle.std.specs.Fmt.{decimal};
 ghost use Rattle.counter_code.specs.Counters.{IsCounter};
-ghost use Rattle.frp_tool.specs.Lines.{named_line, summary_of};
-ghost use Rattle.frp_tool.specs.Answers.{Answers, AreTexts, Compiles, CompilesText, outside};
+ghost use Rattle.frp_tool.specs.Lines.{summary_of};
+ghost use Rattle.frp_tool.specs.Answers.{Answers, AnswersOther, AreTexts, Compiles, CompilesText};
+ghost use Rattle.frp_tool.specs.Outsides.{outside};
 ghost use Rattle.frp_tool.specs.Statuses.{Promises};
-ghost use Rattle.frp_tool.specs.Steps.{Ends, Stores, StoresMap};
+ghost use Rattle.frp_tool.specs.RunFaults.{run_request_of};
+ghost use Rattle.frp_tool.specs.Steps.{Stores, StoresMap};
 
-use crate::requests::request;
+use crate::requests::{request, run_request};
+use crate::runs::run;
+use crate::says::{
+    DONE, MISSING, NO_COMMAND, NO_MEMORY, OUTSIDE_FAILED, READ_FAILED, REFUSED, say, say_name,
+};
 use crate::source::program;
 use counter_code::Counter;
-use edge_io::{Files, PutFault, ReadFault, Sink, WriteFault};
+use edge_io::{Files, ReadFault, Sink, WriteFault};
 use firmware::{Limits, limits_of};
 use frp_tree::{List as Bytes, Text};
 use map_file::Map;
 use std::alloc::{AllocError, Global};
 use std::fmt::Write;
-
-/// Statuses.
-const DONE: u8 = 0;
-
-const REFUSED: u8 = 1;
-
-const NO_COMMAND: u8 = 2;
-
-const MISSING: u8 = 3;
-
-const READ_FAILED: u8 = 4;
-
-const OUTSIDE_FAILED: u8 = 5;
-
-const NO_MEMORY: u8 = 6;
 
 /// What is put where the words form no command that is built.
 const USAGE: &str =
@@ -37,36 +28,6 @@ const USAGE: &str =
 
 /// The levels of interrupts that the chip's return stack has room for.
 const MOST_LEVELS: u32 = 8;
-
-// Puts a line, and answers the status that was due, or that of the failure to put it.
-fn say<S: Sink>(alloc: Global, out: &mut S, due: u8, line: &str) -> u8
-    ensures ends { Ends (S.taken out.old) (S.taken out.new) (S.put_faults out.old) (S.put_faults out.new) due line.now result }
-    ensures count { S.put_faults out.old ≤ S.put_faults out.new }
-{
-    match out.put(alloc, line.as_bytes()) {
-        Ok(()) => due,
-        Err(PutFault::Failed) => OUTSIDE_FAILED,
-        Err(PutFault::Memory) => NO_MEMORY,
-    }
-}
-
-fn line_with_name(alloc: Global, front: &str, name: &Text) -> Result<String, AllocError>
-    ensures { IfOk result (λ line. string_bytes line ≡ named_line front.now name.now) }
-{
-    let name = name.as_str();
-    format!(in alloc; "{front}{name}\n")
-}
-
-// Puts a line that ends in a name.
-fn say_name<S: Sink>(alloc: Global, out: &mut S, due: u8, front: &str, name: &Text) -> u8
-    ensures ends { Ends (S.taken out.old) (S.taken out.new) (S.put_faults out.old) (S.put_faults out.new) due (named_line front.now name.now) result }
-    ensures count { S.put_faults out.old ≤ S.put_faults out.new }
-{
-    match line_with_name(alloc, front, name) {
-        Ok(line) => say(alloc, out, due, line.as_str()),
-        Err(AllocError) => NO_MEMORY,
-    }
-}
 
 // Writes the map, and then puts a line.
 fn store_map<F: Files, S: Sink>(
@@ -210,6 +171,23 @@ fn compile<F: Files, S: Sink>(
     }
 }
 
+// Does the command that the words form, which is no `compile`, and answers its status.
+fn answered_other<F: Files, S: Sink>(
+    alloc: Global,
+    words: &[Text],
+    files: &mut F,
+    out: &mut S,
+) -> u8
+    ensures { AnswersOther (run_request_of words.now)
+        (outside (F.files files.old) (F.read_faults files.old) (F.write_faults files.old) (S.taken out.old) (S.put_faults out.old))
+        (outside (F.files files.new) (F.read_faults files.new) (F.write_faults files.new) (S.taken out.new) (S.put_faults out.new)) result }
+{
+    match run_request(words) {
+        Some(names) => run(alloc, names.hex, names.map, names.script, files, out),
+        None => say(alloc, out, NO_COMMAND, USAGE),
+    }
+}
+
 // Does the command that the words form, and answers its status.
 fn answered<F: Files, S: Sink>(alloc: Global, words: &[Text], files: &mut F, out: &mut S) -> u8
     ensures { Answers words.now
@@ -218,7 +196,7 @@ fn answered<F: Files, S: Sink>(alloc: Global, words: &[Text], files: &mut F, out
 {
     match request(words) {
         Some(names) => compile(alloc, names.source, names.hex, names.map, files, out),
-        None => say(alloc, out, NO_COMMAND, USAGE),
+        None => answered_other(alloc, words, files, out),
     }
 }
 

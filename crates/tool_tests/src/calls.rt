@@ -28,7 +28,7 @@ pub(crate) struct Call<'a> {
 }
 
 /// The status where memory ran out.
-const NO_MEMORY: u8 = 6;
+pub(crate) const NO_MEMORY: u8 = 6;
 
 /// The names of the files.
 pub const SOURCE: &str = "b.frp";
@@ -37,13 +37,13 @@ pub const HEX: &str = "b.hex";
 
 pub const MAP: &str = "b.map";
 
-fn numbers(alloc: Global, items: &[u32]) -> Result<List<u32>, AllocError> {
+pub(crate) fn numbers(alloc: Global, items: &[u32]) -> Result<List<u32>, AllocError> {
     let mut list = List::new(alloc);
     list.extend_from_slice(items)?;
     Ok(list)
 }
 
-fn texts(alloc: Global, words: &[&str]) -> Result<List<Text>, AllocError> {
+pub(crate) fn texts(alloc: Global, words: &[&str]) -> Result<List<Text>, AllocError> {
     let mut list = List::new(alloc);
     for word in words {
         list.push(Text::new(alloc, word)?)?;

@@ -9,14 +9,14 @@ output PORTB = n;
 ";
 
 /// Its firmware and its map.
-const COUNTER_HEX: &str = ":020000040000FA
+pub(crate) const COUNTER_HEX: &str = ":020000040000FA
 :100000000030A00083160A288B1001302007A000C2
 :10001000860009000030860083120B168B170F280C
 :02400E003A3F37
 :00000001FF
 ";
 
-const COUNTER_MAP: &str = "efrp map 1
+pub(crate) const COUNTER_MAP: &str = "efrp map 1
 event Tick INT 1 open 0007 commit 0008
 state n u8 020
 output PORTB
@@ -150,7 +150,6 @@ fn answers_other_words_with_the_usage_line(rt: HostRuntime) {
 #[test]
 fn answers_commands_to_come_with_the_usage_line(rt: HostRuntime) {
     assert!(rt; form_no_command(&rt, &["check", SOURCE]));
-    assert!(rt; form_no_command(&rt, &["run", HEX, MAP, "b.script"]));
     assert!(rt; form_no_command(&rt, &["model", SOURCE, "b.events"]));
     assert!(rt; form_no_command(&rt, &["big", "7", HEX, MAP]));
 }

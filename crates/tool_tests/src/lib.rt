@@ -6,3 +6,7 @@
 mod calls;
 #[cfg(test)]
 mod compile_tests;
+#[cfg(test)]
+mod run_calls;
+#[cfg(test)]
+mod run_tests;
