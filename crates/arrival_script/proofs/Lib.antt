@@ -1,9 +1,10 @@
+mod Examples
 pub mod CauseFacts
 pub mod DigitFacts
 pub mod DraftFacts
-mod Examples
 pub mod FieldFacts
 pub mod ListFacts
+pub mod ModelExamples
 pub mod NameFacts
 pub mod ReadFacts
 pub mod RunFacts
