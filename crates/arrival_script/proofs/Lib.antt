@@ -9,4 +9,5 @@ pub mod ReadFacts
 pub mod RunFacts
 pub mod SendFacts
 pub mod SourceFacts
+mod TraceExamples
 pub mod TraceFacts
