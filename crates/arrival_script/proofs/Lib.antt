@@ -10,4 +10,5 @@ pub mod ReadFacts
 pub mod RunFacts
 pub mod SendFacts
 pub mod SourceFacts
+mod TraceExamples
 pub mod TraceFacts

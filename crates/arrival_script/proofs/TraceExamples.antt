@@ -1,0 +1,85 @@
+-- Computed lines, and the trace of a program of one word.
+use Rattle.std.proofs.Common.{◌≡◌, ℕ, [], ◌∷◌, Some, None, codes, refl}
+use Rattle.std.specs.Fmt.{digits}
+use Rattle.std.specs.List.{flat_map}
+use Rattle.frp_tree.specs.declared.syntax.Ty.TheVariants as ty
+use Rattle.hex_file.specs.declared.images.Image.{Image}
+use Rattle.pic_isa.specs.declared.sources.Source.TheVariants.{Int, Tmr1}
+use Rattle.pic_regs.specs.Arrivals.{no_source, set_of}
+use Rattle.pic_regs.specs.Start.{registers_on}
+use Rattle.pic_machine.specs.declared.steps.Did.TheVariants.{Took, Ran}
+use Rattle.pic_machine.specs.Run.{run}
+use Rattle.map_file.specs.declared.maps.MapEvent.{MapEvent}
+use Rattle.map_file.specs.declared.maps.Map.{Map}
+use Rattle.arrival_script.specs.declared.scripts.Script.{Script}
+use Rattle.arrival_script.specs.Trace.{start_of, sets_of, set_at, arrival_lines, take_line, open_line, port_line, commit_line, lines_of, trace_text}
+
+-- A script of two arrivals, whose fill byte is 01h.
+abbrev script : Script
+script = record { fill = 1; arrivals = record { at = 0; sources = 0x82 } ∷ record { at = 2; sources = 0x02 } ∷ []; steps = 3 }
+
+third : set_at script.arrivals 2 Int ≡ set_at script.arrivals 0 Tmr1
+third = refl
+
+second_empty : set_at script.arrivals 1 ≡ no_source
+second_empty = refl
+
+-- Sources stand by their number.
+latched_in_order : arrival_lines 4 (set_of 0x82) no_source ≡ codes "4 latch INT\n4 latch TMR1\n"
+unfolding digits
+latched_in_order = refl
+
+merged_first : arrival_lines 12 (set_of 0x80) (set_of 0x02) ≡ codes "12 merge INT\n12 latch TMR1\n"
+unfolding digits
+merged_first = refl
+
+taken : take_line 5 Took ≡ codes "5 take\n"
+unfolding digits
+taken = refl
+
+-- Two events share their open address, and have a line each, in order.
+abbrev go : MapEvent
+go = record { name = codes "Go"; source = Int; priority = 1; «open» = 4; commit = 7 }
+
+abbrev tick : MapEvent
+tick = record { name = codes "Tick"; source = Tmr1; priority = 2; «open» = 4; commit = 9 }
+
+abbrev map : Map
+map = record {
+  events = go ∷ tick ∷ [];
+  states = record { name = codes "n"; ty = ty.U8; low = 0x020; high = 0x020 } ∷ record { name = codes "w"; ty = ty.U16; low = 0x020; high = 0x021 } ∷ [];
+  outputs = [];
+  ready = 11;
+  regs = [];
+  depth = 1;
+  ram = 2;
+  words = 12;
+  settle = 20;
+}
+
+both_open : flat_map (open_line 6 (Ran 4 0x108B)) map.events ≡ codes "6 open Go\n6 open Tick\n"
+unfolding digits
+both_open = refl
+
+one_port : port_line 8 (Some (record { port = 1; byte = 0xA })) ≡ codes "8 port PORTB 0A\n"
+unfolding digits
+one_port = refl
+
+one_commit : flat_map (commit_line map 8 (Ran 7 0x0086) (registers_on (start_of script))) map.events ≡ codes "8 commit Go n=1 w=257\n"
+unfolding digits
+one_commit = refl
+
+no_commit : flat_map (commit_line map 8 Took (registers_on (start_of script))) map.events ≡ []
+no_commit = refl
+
+-- A program that goes round on one word, and one that sleeps.
+abbrev one_word : ℕ → Image
+one_word word = record { words = record { address = 0; word = word } ∷ []; config = None; aside = [] }
+
+whole : trace_text map (run (one_word 0x2800) (start_of script) (sets_of script)) 3 ≡ codes "0 latch INT\n0 latch TMR1\n2 merge INT\nend 3 deepest 0 n=1 w=257\n"
+unfolding digits
+whole = refl
+
+up_to_the_stop : lines_of map (run (one_word 0x0063) (start_of script) (sets_of script)) 1 ≡ codes "0 latch INT\n0 latch TMR1\n"
+unfolding digits
+up_to_the_stop = refl
