@@ -3,8 +3,8 @@ ghost use Rattle.counter_code.specs.declared.counters.Counter.{Counter as Counte
 ghost use Rattle.counter_code.specs.Counters.{Spells};
 
 use crate::first_form::counter;
-use efrp_syntax::{SyntaxFault, lex};
 use counter_code::Counter;
+use efrp_syntax::{SyntaxFault, lex};
 use std::alloc::{AllocError, Global};
 
 fn is_memory(fault: SyntaxFault) -> bool

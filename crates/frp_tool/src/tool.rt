@@ -14,8 +14,8 @@ use crate::says::{
     DONE, MISSING, NO_COMMAND, NO_MEMORY, OUTSIDE_FAILED, READ_FAILED, REFUSED, say, say_name,
 };
 use crate::source::program;
-use edge_io::{Files, ReadFault, Sink, WriteFault};
 use counter_code::Counter;
+use edge_io::{Files, ReadFault, Sink, WriteFault};
 use firmware::{Limits, limits_of};
 use frp_tree::{List as Bytes, Text};
 use map_file::Map;

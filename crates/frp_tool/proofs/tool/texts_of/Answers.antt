@@ -8,8 +8,7 @@ use Rattle.frp_tool.proofs.tool.texts_of.Goals as goal
 pub returns : goal.returns
 returns c =
     let p = program_of c.args.counter.now in
-    let m = c.in_ok-built.built.map in
-    (
+    let m = c.in_ok-built.built.map in (
       m,
       c.in_ok-write-2.ensures,
       subst (λ hex. IsFirmware p hex (map_text m)) (sym c.in_ok-write.ensures) c.in_ok-built.ensures.firmware,
