@@ -1,20 +1,20 @@
 -- The trace of a run and the line of a stop behind it, put together.
-use Rattle.std.proofs.Common.{◌≡◌, ℕ, zero, suc, ◌+◌, ◌≤◌, true, List, [], ◌∷◌, ◌++◌, take, Option, Some, None, Ok, Err, ◌⊎◌, inl, inr, arith, refl, sym, ◌∙◌, ap, subst, string_bytes}
+use Rattle.std.proofs.Common.{◌≡◌, ℕ, zero, suc, ◌+◌, ◌≤◌, true, List, [], ◌∷◌, ◌++◌, take, Option, Some, None, Ok, Err, inl, inr, arith, refl, sym, ◌∙◌, ap, subst}
 use Rattle.std.proofs.lemmas.List.{append_assoc, append-nil}
 use Rattle.edge_io.specs.Sinks.{Appends, AppendsFront}
 use Rattle.edge_io.specs.Counts.{Rose}
-use Rattle.edge_io.specs.Files.{Held, KeepsFiles}
+use Rattle.edge_io.specs.Files.{KeepsFiles}
 use Rattle.pic_machine.specs.declared.steps.Did.{Did}
 use Rattle.pic_machine.specs.declared.steps.Did.TheVariants.{Took, Ran, Stopped}
 use Rattle.pic_machine.specs.declared.steps.Why.{Why}
-use Rattle.arrival_script.specs.Trace.{IsDue, StopsFirst, is_stop, lines_of, Traces}
+use Rattle.arrival_script.specs.Trace.{IsDue, is_stop, lines_of, Traces}
 use Rattle.arrival_script.specs.declared.traces.TraceFault.TheVariants as fault
 use Rattle.frp_tool.specs.declared.inputs.Parts.{Parts}
 use Rattle.frp_tool.specs.Outsides.{Outside}
 use Rattle.frp_tool.specs.Steps.{Ends}
 use Rattle.frp_tool.specs.RunLines.{stop_line}
 use Rattle.frp_tool.specs.RunFaults.{RunRequest, RunFault, ArePartsOf, FaultCause, fault_status, fault_line}
-use Rattle.frp_tool.specs.Runs.{RunVerdict, NoRun, Stops, Ended, log_of, stopped_text, whole_trace, RunEnds, Runs, Traced}
+use Rattle.frp_tool.specs.Runs.{NoRun, Stops, Ended, log_of, stopped_text, whole_trace, RunEnds, Runs, Traced}
 
 -- fronts of a text and of one behind another
 

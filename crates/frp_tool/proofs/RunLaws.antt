@@ -1,5 +1,5 @@
 -- What each status of a `run` says, from how its call ends.
-use Rattle.std.proofs.Common.{◌≡◌, ℕ, ◌<◌, ◌≤◌, List, [], ◌∷◌, ◌++◌, Option, Some, None, length, ◌⊎◌, inl, inr, ⊎_elim, arith, refl, sym, ◌∙◌, subst}
+use Rattle.std.proofs.Common.{◌≡◌, ℕ, ◌<◌, List, [], ◌∷◌, ◌++◌, Option, Some, None, length, ◌⊎◌, inl, inr, ⊎_elim, arith, refl, sym, ◌∙◌, subst}
 use Rattle.std.specs.List.{AllByRecursion}
 use Rattle.edge_io.specs.declared.outside.TheConstants.{LONGEST_FILE}
 use Rattle.edge_io.specs.Files.{Held, IfTold}
@@ -15,9 +15,9 @@ use Rattle.frp_tool.specs.declared.inputs.Inputs.{Inputs}
 use Rattle.frp_tool.specs.declared.inputs.Parts.{Parts}
 use Rattle.frp_tool.specs.Outsides.{Outside}
 use Rattle.frp_tool.specs.Steps.{DueOrYielded}
-use Rattle.frp_tool.specs.RunFaults.{RunRequest, Unread, NotHeld, NotRead, TooLong, IsReadable, IsLong, IsUnread, IsNext, AreInputs, AreParts, ArePartsOf, RunFault, FileUnread, BadHex, BadMap, BadScript, fault_status, FaultCause, IsFirstFault}
-use Rattle.frp_tool.specs.Runs.{RunVerdict, NoRun, Stops, Ended, run_status, run_text, RunCause, RunEnds, Runs, StopsAt, GoesToEnd, whole_trace}
-use Rattle.frp_tool.specs.RunStatuses.{RunDone, FindsLong, FindsFault, FindsStop, RunOneWhere, RunThreeWhere, RunKeepsFiles, RunComplete, RunPromises}
+use Rattle.frp_tool.specs.RunFaults.{RunRequest, NotHeld, NotRead, TooLong, IsReadable, IsLong, IsNext, AreInputs, AreParts, ArePartsOf, RunFault, FileUnread, BadHex, BadMap, BadScript, fault_status, IsFirstFault}
+use Rattle.frp_tool.specs.Runs.{RunVerdict, NoRun, Stops, Ended, run_status, run_text, RunCause, RunEnds, Runs, StopsAt, GoesToEnd}
+use Rattle.frp_tool.specs.RunStatuses.{RunDone, FindsLong, FindsFault, FindsStop, RunPromises}
 use Rattle.frp_tool.proofs.RunSteps.{both_told}
 
 due : (taken taken' : Option (List ℕ)) (puts puts' want : ℕ) (text : List ℕ) (status : ℕ) → RunEnds taken taken' puts puts' want text status → DueOrYielded want status

@@ -1,8 +1,7 @@
 -- The steps of `run` before the trace, put together.
-use Rattle.std.proofs.Common.{◌≡◌, ◌≢◌, ℕ, ◌<◌, ◌≤◌, ◌⊎◌, inl, inr, List, [], ◌∷◌, Option, Some, None, Err, length, arith, refl, sym, ◌∙◌, subst, string_bytes}
+use Rattle.std.proofs.Common.{◌≡◌, ◌≢◌, ℕ, ◌<◌, ◌≤◌, ◌⊎◌, inl, inr, List, [], ◌∷◌, Option, Some, None, Err, length, arith, refl, ◌∙◌, subst}
 use Rattle.edge_io.specs.declared.outside.TheConstants.{LONGEST_FILE}
-use Rattle.edge_io.specs.Files.{Held, SameFiles, BothTold, IfTold, KeepsFiles}
-use Rattle.edge_io.specs.Counts.{Rose}
+use Rattle.edge_io.specs.Files.{Held, IfTold, KeepsFiles}
 use Rattle.frp_tool.specs.declared.inputs.Inputs.{Inputs}
 use Rattle.frp_tool.specs.declared.inputs.Halt.{Halt}
 use Rattle.frp_tool.specs.declared.inputs.Halt.TheVariants.{Said, Memory}
@@ -21,7 +20,7 @@ use Rattle.arrival_script.specs.declared.scripts.ScriptFault.TheVariants as scri
 use Rattle.arrival_script.specs.Scripts as script
 use Rattle.frp_tool.specs.RunLines.{hex_line, map_line, script_line}
 use Rattle.frp_tool.proofs.Compiles.{keeps_trans}
-use Rattle.frp_tool.specs.RunFaults.{RunRequest, Unread, NotHeld, NotRead, TooLong, unread_status, unread_line, IsReadable, IsUnread, IsNext, IsInput, AreInputs, AreParts, IsScriptIn, RunFault, FileUnread, BadHex, BadMap, BadScript, fault_status, fault_line, IsFirstFault, FaultCause, Gives}
+use Rattle.frp_tool.specs.RunFaults.{RunRequest, Unread, NotHeld, NotRead, TooLong, unread_status, unread_line, IsUnread, IsInput, AreInputs, AreParts, IsScriptIn, RunFault, FileUnread, BadHex, BadMap, BadScript, fault_status, fault_line, IsFirstFault, FaultCause, Gives}
 
 -- A halt stays one where the fault is told in another way, with the same status and line.
 pub halts : {A A' B B' : Type 0} (Good : A → Type 0) (Good' : A' → Type 0) (Bad : B → Type 0) (Bad' : B' → Type 0) (status : B → ℕ) (status' : B' → ℕ) (line : B → List ℕ) (line' : B' → List ℕ) (e : Halt)

@@ -1,5 +1,5 @@
 -- An image that a file means is one that can be written.
-use Rattle.std.proofs.Common.{◌≡◌, ℕ, suc, ◌+◌, ◌*◌, ◌%◌, ◌<◌, ◌≤◌, List, [], ◌∷◌, length, map, Option, None, Some, IfSome, refl, arith}
+use Rattle.std.proofs.Common.{◌≡◌, ℕ, suc, ◌+◌, ◌<◌, ◌≤◌, List, [], ◌∷◌, map, Option, None, Some, IfSome, refl, arith}
 use Rattle.std.specs.List.{Contains}
 use Rattle.std.specs.List.Sorted.{IsStrictlyIncreasing}
 use Rattle.hex_file.specs.declared.images.Word.{Word}
@@ -20,8 +20,7 @@ rises_from : (low : ℕ) (w : Word) (ws : List Word) → low ≤ w.address → I
 rises_from low w [] least rising fits = let at = fits w (holds_first w []) in (least, at.0, at.1, tt)
 rises_from low w (z ∷ ws) least rising fits =
     let at = fits w (holds_first w (z ∷ ws)) in
-    let next : w.address < z.address = rising 0 (omega arith) in
-    (
+    let next : w.address < z.address = rising 0 (omega arith) in (
       least,
       at.0,
       at.1,

@@ -7,7 +7,6 @@ use Rattle.hex_file.specs.declared.images.Image.{Image}
 use Rattle.hex_file.specs.declared.faults.HexFault.{HexFault}
 use Rattle.hex_file.specs.ImageOf.{IsImageOf}
 use Rattle.hex_file.specs.Faults as hex
-use Rattle.map_file.specs.declared.maps.Map.{Map}
 use Rattle.map_file.specs.MapRules.{IsMap}
 use Rattle.map_file.specs.MapText.{map_text}
 use Rattle.map_file.specs.MapFaults.{IsMapText, FirstFaulty}

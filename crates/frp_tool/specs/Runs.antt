@@ -1,5 +1,5 @@
 use Rattle.std.specs.Prelude.{◌≡◌, ℕ, ◌+◌, List, ◌++◌, Option, ◌⊎◌}
-use Rattle.edge_io.specs.Files.{Held, KeepsFiles}
+use Rattle.edge_io.specs.Files.{KeepsFiles}
 use Rattle.edge_io.specs.Sinks.{Appends, AppendsFront}
 use Rattle.edge_io.specs.Counts.{Rose}
 use Rattle.pic_machine.specs.declared.steps.Did.TheVariants.{Stopped}

@@ -1,4 +1,4 @@
-use Rattle.std.proofs.Common.{inl, inr, refl, sym, ◌∙◌}
+use Rattle.std.proofs.Common.{inl, refl, ◌∙◌}
 use Rattle.frp_tool.specs.Outsides.{outside}
 use Rattle.frp_tool.specs.RunFaults.{RunRequest}
 use Rattle.frp_tool.proofs.RunEnding.{traced_runs, refused_runs}
