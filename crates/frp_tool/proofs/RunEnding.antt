@@ -7,7 +7,8 @@ use Rattle.edge_io.specs.Files.{KeepsFiles}
 use Rattle.pic_machine.specs.declared.steps.Did.{Did}
 use Rattle.pic_machine.specs.declared.steps.Did.TheVariants.{Took, Ran, Stopped}
 use Rattle.pic_machine.specs.declared.steps.Why.{Why}
-use Rattle.arrival_script.specs.Trace.{IsDue, is_stop, lines_of, Traces}
+use Rattle.pic_machine.specs.Dids.{is_stop}
+use Rattle.arrival_script.specs.Trace.{IsDue, lines_of, Traces}
 use Rattle.arrival_script.specs.declared.traces.TraceFault.TheVariants as fault
 use Rattle.frp_tool.specs.declared.inputs.Parts.{Parts}
 use Rattle.frp_tool.specs.Outsides.{Outside}

@@ -14,8 +14,6 @@ use Rattle.pic_regs.specs.Bytes.{one_if}
 use Rattle.pic_regs.specs.Map.{within, canonical}
 use Rattle.pic_regs.specs.Start.{IsStart}
 use Rattle.pic_regs.specs.Arrivals.{Sources}
-use Rattle.pic_machine.specs.declared.steps.Did.{Did}
-use Rattle.pic_machine.specs.declared.steps.Did.TheVariants.{Took, Ran, Stopped}
 use Rattle.pic_machine.specs.Run.{Log, arrivals_of, run}
 use Rattle.pic_machine.specs.Dids.{is_stop}
 use Rattle.hex_file.specs.declared.images.Image.{Image}

@@ -70,7 +70,10 @@ fn says_what_is_wrong_with_the_script(rt: HostRuntime) {
         ("step 9\n", "refused: script 1 line\n"),
         ("steps 0\n", "refused: script 1 number\n"),
         ("at 5 INT INT\nsteps 9\n", "refused: script 1 twice\n"),
-        ("at 5 INT\nat 5 INT\nsteps 9\n", "refused: script 2 rising\n"),
+        (
+            "at 5 INT\nat 5 INT\nsteps 9\n",
+            "refused: script 2 rising\n",
+        ),
         ("at 5 INT\n", "refused: script 2 nosteps\n"),
         ("at 5 INT\nat 9 INT\nsteps 9\n", "refused: script 2 past\n"),
     ];
@@ -220,9 +223,11 @@ fn damage_is_answered(
         script: Some(lines.as_slice()),
         ..whole
     };
-    Ok((place >= COUNTER_HEX.len() || is_answered(rt, &with_hex))
-        && (place >= COUNTER_MAP.len() || is_answered(rt, &with_map))
-        && (place >= script.len() || is_answered(rt, &with_script)))
+    Ok(
+        (place >= COUNTER_HEX.len() || is_answered(rt, &with_hex))
+            && (place >= COUNTER_MAP.len() || is_answered(rt, &with_map))
+            && (place >= script.len() || is_answered(rt, &with_script)),
+    )
 }
 
 // The same, once more where memory ran out.
