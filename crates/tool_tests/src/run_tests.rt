@@ -1,5 +1,8 @@
+use crate::calls::{HEX, MAP, NO_MEMORY, texts};
 use crate::compile_tests::{COUNTER_HEX, COUNTER_MAP};
-use crate::run_calls::{Run, end_of, run_ends};
+use crate::run_calls::{self, Run, end_of, run_ends};
+use edge_io::{SureFiles, SureSink};
+use frp_tool::efrp;
 use std::alloc::{AllocError, Global};
 
 /// Three events.
@@ -173,7 +176,7 @@ fn tells_by_its_status_that_the_put_failed(rt: HostRuntime) {
 }
 
 // A text without its end from a place on, or with another byte there.
-fn damaged(
+fn copy_with_damage(
     alloc: Global,
     text: &[u8],
     place: usize,
@@ -200,49 +203,148 @@ fn is_answered(rt: &(impl AllocGlobal + Print), call: &Run<'_>) -> bool {
     }
 }
 
-// Whether each of the three files is answered with this damage to it, where it is as long as that.
+/// The file that is damaged, or too long.
+#[derive(Clone, Copy, Debug)]
+enum Damaged {
+    Hex,
+    Map,
+    Script,
+}
+
+/// A script of a run that ends.
+const SHORT_SCRIPT: &str = "fill 55\nat 21 INT TMR1\nsteps 40\n";
+
+fn text_of(which: Damaged) -> &'static str {
+    match which {
+        Damaged::Hex => COUNTER_HEX,
+        Damaged::Map => COUNTER_MAP,
+        Damaged::Script => SHORT_SCRIPT,
+    }
+}
+
+// The counter's files, with this in place of one of them.
+fn with<'a>(which: Damaged, bytes: &'a [u8]) -> Run<'a> {
+    let whole = counter(SHORT_SCRIPT);
+    match which {
+        Damaged::Hex => Run {
+            hex: Some(bytes),
+            ..whole
+        },
+        Damaged::Map => Run {
+            map: Some(bytes),
+            ..whole
+        },
+        Damaged::Script => Run {
+            script: Some(bytes),
+            ..whole
+        },
+    }
+}
+
+// Whether this damage to a file is answered. An `Err` says that memory ran out.
 fn damage_is_answered(
     rt: &(impl AllocGlobal + Print),
+    which: Damaged,
     place: usize,
     byte: Option<u8>,
 ) -> Result<bool, AllocError> {
-    let script = "fill 55\nat 21 INT TMR1\nsteps 40\n";
-    let whole = counter(script);
-    let hex = damaged(rt.alloc(), COUNTER_HEX.as_bytes(), place, byte)?;
-    let map = damaged(rt.alloc(), COUNTER_MAP.as_bytes(), place, byte)?;
-    let lines = damaged(rt.alloc(), script.as_bytes(), place, byte)?;
-    let with_hex = Run {
-        hex: Some(hex.as_slice()),
-        ..whole
-    };
-    let with_map = Run {
-        map: Some(map.as_slice()),
-        ..whole
-    };
-    let with_script = Run {
-        script: Some(lines.as_slice()),
-        ..whole
-    };
-    Ok(
-        (place >= COUNTER_HEX.len() || is_answered(rt, &with_hex))
-            && (place >= COUNTER_MAP.len() || is_answered(rt, &with_map))
-            && (place >= script.len() || is_answered(rt, &with_script)),
-    )
+    let bytes = copy_with_damage(rt.alloc(), text_of(which).as_bytes(), place, byte)?;
+    Ok(is_answered(rt, &with(which, bytes.as_slice())))
 }
 
-// The same, once more where memory ran out.
-fn answers_damage(rt: &(impl AllocGlobal + Print), place: usize, byte: Option<u8>) -> bool {
-    if let Ok(answered) = damage_is_answered(rt, place, byte) {
-        return answered;
+// Whether a file is answered that is cut at any place, or has this byte there. Where memory ran out a place is tried
+// again.
+fn answers_damage(rt: &(impl AllocGlobal + Print), which: Damaged, byte: Option<u8>) -> bool {
+    for place in 0..text_of(which).len() {
+        let answered = match damage_is_answered(rt, which, place, byte) {
+            Ok(answered) => answered,
+            Err(AllocError) => {
+                let _ = println!(rt; "memory ran out");
+                matches!(damage_is_answered(rt, which, place, byte), Ok(true))
+            }
+        };
+        if !answered {
+            return false;
+        }
     }
-    let _ = println!(rt; "memory ran out");
-    matches!(damage_is_answered(rt, place, byte), Ok(true))
+    true
 }
 
 #[test]
-fn answers_damaged_files(rt: HostRuntime) {
-    for place in 0..COUNTER_MAP.len() {
-        assert!(rt; answers_damage(&rt, place, None), "{place}");
-        assert!(rt; answers_damage(&rt, place, Some(b'0')), "{place}");
+fn answers_cut_hex_files(rt: HostRuntime) {
+    assert!(rt; answers_damage(&rt, Damaged::Hex, None));
+}
+
+#[test]
+fn answers_changed_hex_files(rt: HostRuntime) {
+    assert!(rt; answers_damage(&rt, Damaged::Hex, Some(b'0')));
+}
+
+#[test]
+fn answers_cut_maps(rt: HostRuntime) {
+    assert!(rt; answers_damage(&rt, Damaged::Map, None));
+}
+
+#[test]
+fn answers_changed_maps(rt: HostRuntime) {
+    assert!(rt; answers_damage(&rt, Damaged::Map, Some(b'0')));
+}
+
+#[test]
+fn answers_damaged_scripts(rt: HostRuntime) {
+    assert!(rt; answers_damage(&rt, Damaged::Script, None));
+    assert!(rt; answers_damage(&rt, Damaged::Script, Some(b'0')));
+}
+
+fn blanks(alloc: Global, length: usize) -> Result<Vec<u8>, AllocError> {
+    let mut text = Vec::new(alloc);
+    text.resize(length, b' ')?;
+    Ok(text)
+}
+
+// Whether a file in this place is refused that is a byte too long.
+fn long_is_refused(rt: &(impl AllocGlobal + Print), which: Damaged, put: &str) -> bool {
+    let text = match blanks(rt.alloc(), 1_048_577) {
+        Ok(text) => text,
+        Err(AllocError) => {
+            let _ = println!(rt; "memory ran out");
+            let Ok(text) = blanks(rt.alloc(), 1_048_577) else {
+                return false;
+            };
+            text
+        }
+    };
+    run_ends(rt, &with(which, text.as_slice()), 1, put)
+}
+
+#[test]
+fn says_which_file_is_too_long(rt: HostRuntime) {
+    assert!(rt; long_is_refused(&rt, Damaged::Hex, "refused: long b.hex\n"));
+    assert!(rt; long_is_refused(&rt, Damaged::Map, "refused: long b.map\n"));
+    assert!(rt; long_is_refused(&rt, Damaged::Script, "refused: long b.script\n"));
+}
+
+// Whether the counter is traced over files and a sink that never fail. An `Err` says that memory ran out.
+fn is_traced_surely(alloc: Global) -> Result<bool, AllocError> {
+    let words = texts(alloc, &["run", HEX, MAP, run_calls::SCRIPT])?;
+    let mut files = SureFiles::new(alloc);
+    files.place(alloc, HEX, COUNTER_HEX.as_bytes())?;
+    files.place(alloc, MAP, COUNTER_MAP.as_bytes())?;
+    files.place(alloc, run_calls::SCRIPT, SCRIPT.as_bytes())?;
+    let mut out = SureSink::new(alloc);
+    let status = efrp(alloc, words.as_slice(), &mut files, &mut out);
+    if status == NO_MEMORY {
+        return Err(AllocError);
+    }
+    Ok(status == 0 && out.taken() == TRACE.as_bytes())
+}
+
+#[test]
+fn traces_over_files_that_never_fail(rt: HostRuntime) {
+    if let Ok(traced) = is_traced_surely(rt.alloc()) {
+        assert!(rt; traced);
+    } else {
+        let _ = println!(rt; "memory ran out");
+        assert!(rt; is_traced_surely(rt.alloc()) == Ok(true));
     }
 }
