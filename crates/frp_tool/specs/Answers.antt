@@ -22,6 +22,7 @@ pub record Request : Type 0 where
   pub hex : List ℕ
   pub map : List ℕ
 
+-- The request, where the command is a `compile`.
 abbrev pub where_compile : Option Command → Request → Option Request
 where_compile (Some Compile) r = Some r
 where_compile _ r = None
@@ -39,7 +40,7 @@ pub record Firmware : Type 0 where
   pub map : Map
   pub is_firmware : IsFirmware (program_of counter) hex (map_text map)
 
--- What the tests of a request say, in their order: the source isn't there; it wasn't read; it is too long; it spells no
+-- What the tests of a request say: the source isn't there; it wasn't read; it is too long; it spells no
 -- program of the first form; its HEX wasn't written; its map wasn't written; all was done.
 pub data Verdict : Type 0 where
   Missing : Verdict
@@ -50,6 +51,7 @@ pub data Verdict : Type 0 where
   MapFailed : Firmware → Verdict
   Done : Firmware → Verdict
 
+-- The status that is due.
 abbrev pub status_of : Verdict → ℕ
 status_of Missing = 3
 status_of ReadFailed = 4
