@@ -115,7 +115,7 @@ fn flush<S: Sink>(alloc: Global, text: &mut String, out: &mut S) -> Result<(), T
     Ok(())
 }
 
-// Adds the lines of a step, and puts the text where it is long.
+// Adds the lines of a step, if any, and puts the text where it is long.
 fn tell_step<S: Sink>(
     alloc: Global,
     text: &mut String,
@@ -131,9 +131,6 @@ fn tell_step<S: Sink>(
     ensures failed { IsErrOf result TraceFault.Failed → Rose (S.put_faults out.old) (S.put_faults out.new) }
     ensures count { S.put_faults out.old ≤ S.put_faults out.new }
 {
-    if is_quiet(map, report) {
-        return Ok(());
-    }
     write_step(text, map, step, report, regs)?;
     if text.len() < PAGE {
         return Ok(());
@@ -168,6 +165,9 @@ pub fn trace<S: Sink>(
         pending = later;
         let report = chip.step(arrivals);
         deepest = greater(deepest, chip.depth());
+        if is_quiet(map, &report) {
+            continue;
+        }
         tell_step(alloc, &mut text, map, step, &report, chip.regs(), out)?;
         if let Some((address, why)) = stop_of(report.did) {
             flush(alloc, &mut text, out)?;
