@@ -11,7 +11,8 @@ ghost use Rattle.arrival_script.specs.Scripts.{IsScript};
 ghost use Rattle.arrival_script.specs.Sends.{Adds, Flushes, RiseFrom};
 ghost use Rattle.arrival_script.specs.Trace.{Traces, set_at, sets_of, start_of, step_lines};
 
-use crate::lines::{is_quiet, write_end, write_step};
+use crate::lines::{write_end, write_step};
+use crate::named::{is_plain, named_addresses};
 use crate::scripts::{Arrival, Script};
 use edge_io::{PutFault, Sink};
 use hex_file::Image;
@@ -158,6 +159,7 @@ pub fn trace<S: Sink>(
 {
     let mut chip = Chip::power_on(image, &start_of(s));
     let mut text = String::new(alloc);
+    let named = named_addresses(map.events.as_slice());
     let mut pending = s.arrivals.as_slice();
     let mut deepest = 0;
     for step in 0..s.steps {
@@ -165,7 +167,7 @@ pub fn trace<S: Sink>(
         pending = later;
         let report = chip.step(arrivals);
         deepest = greater(deepest, chip.depth());
-        if is_quiet(map, &report) {
+        if is_plain(&named, &report) {
             continue;
         }
         tell_step(alloc, &mut text, map, step, &report, chip.regs(), out)?;
