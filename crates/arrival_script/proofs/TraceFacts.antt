@@ -13,6 +13,7 @@ use Rattle.pic_machine.specs.declared.steps.Did.TheVariants.{Took, Ran, Stopped}
 use Rattle.pic_machine.specs.declared.steps.PortWrite.{PortWrite}
 use Rattle.pic_machine.specs.declared.steps.Stepped.{Stepped}
 use Rattle.pic_machine.specs.Boundary.{Step, stepped}
+use Rattle.pic_machine.specs.Dids.{is_stop}
 use Rattle.map_file.specs.declared.maps.MapEvent.{MapEvent}
 use Rattle.map_file.specs.declared.maps.Map.{Map}
 use Rattle.map_file.specs.MapText.{line}
@@ -91,6 +92,12 @@ quiet m k step report e h =
     let l = and_parts (number_of step.latched == 0 && number_of step.merged == 0) (is_none step.port) q.3 in
     let n = and_parts (number_of step.latched == 0) (number_of step.merged == 0) l.0 in
     quiet-step m k step q.0 q.1 (eqb-true (number_of step.latched) 0 n.0) (eqb-true (number_of step.merged) 0 n.1) q.2 (no_port step.port l.1) q.4
+
+-- A quiet step is no stop.
+pub quiet-goes : (m : Map) (k : ℕ) (step : Step) (report : Stepped) → report ≡ stepped step → is_quiet m (is_silent report) report.did ≡ true → is_stop step.did ≡ false
+quiet-goes m k step report e h =
+    let q = quiet-report m (is_silent report) report.did h in
+    ap is_stop (sym (ap (λ (r : Stepped). r.did) e) ∙ q.2)
 
 pub on_ok : {E : Type 0} {P Q : Type 0} (r : Result (Unit {0}) E) → (P → Q) → OnOk r P → OnOk r Q
 on_ok (Ok done) f p = f p

@@ -1,4 +1,4 @@
-use Rattle.std.specs.Prelude.{ℕ, Bool, false, not, ◌&&◌, ◌||◌, ◌==◌, List, ◌++◌, is_none, codes}
+use Rattle.std.specs.Prelude.{◌≡◌, ℕ, Bool, true, false, not, ◌&&◌, ◌||◌, ◌==◌, List, ◌++◌, is_none, get_or, codes}
 use Rattle.std.specs.List.{list_any}
 use Rattle.pic_machine.specs.declared.steps.Did.{Did}
 use Rattle.pic_machine.specs.declared.steps.Did.TheVariants.{Took, Ran, Stopped}
@@ -13,6 +13,10 @@ spaced field = codes " " ++ field
 -- An event opens or commits at an address.
 abbrev pub names_address : ℕ → MapEvent → Bool
 names_address address e = address == e.«open» || address == e.commit
+
+-- Each address that an event opens or commits at is marked. Addresses past the end count as marked.
+abbrev pub Marks : List Bool → List MapEvent → Type 0
+Marks named events = (address : ℕ) → get_or named address true ≡ false → list_any (names_address address) events ≡ false
 
 -- Nothing arrived, and nothing was put on a port.
 abbrev pub is_silent : Stepped → Bool

@@ -9,6 +9,7 @@ mod drafts;
 mod entries;
 mod fields;
 mod lines;
+mod named;
 mod reader;
 mod scripts;
 mod traces;

@@ -1,6 +1,6 @@
 ghost use Rattle.std.specs.Prelude.{◌≡◌, ◌++◌, ◌<◌, ◌∷◌, [], OnOk, string_bytes, codes};
 ghost use Rattle.std.specs.Fmt.{decimal};
-ghost use Rattle.std.specs.List.{AllByRecursion, flat_map, list_any};
+ghost use Rattle.std.specs.List.{AllByRecursion, flat_map};
 ghost use Rattle.pic_isa.specs.declared.sources.Source.{Source as Sources};
 ghost use Rattle.pic_isa.specs.Names.{name_of_port};
 ghost use Rattle.pic_regs.specs.Arrivals.{set_of};
@@ -11,13 +11,13 @@ ghost use Rattle.pic_machine.specs.Dids.{is_run_at};
 ghost use Rattle.map_file.specs.MapRules.{IsMap, IsState};
 ghost use Rattle.map_file.specs.MapText.{line};
 ghost use Rattle.arrival_script.specs.Trace.{arrival_line, commit_line, open_line, port_line, state_fields, state_field, step_line, step_lines, take_line, value_in};
-ghost use Rattle.arrival_script.specs.TraceParts.{spaced, names_address, is_silent, is_quiet};
+ghost use Rattle.arrival_script.specs.TraceParts.{spaced};
 
 use crate::entries::has;
 use frp_tree::Ty;
 use map_file::{Map, MapEvent, MapState};
 use pic_isa::{Source, port_name};
-use pic_machine::{Chip, Did, PortWrite, Stepped};
+use pic_machine::{Did, PortWrite, Stepped};
 use pic_regs::Regs;
 use std::alloc::AllocError;
 
@@ -256,37 +256,4 @@ pub(crate) fn write_end(
 {
     begin_end(text, steps, deepest)?;
     end_with_states(text, regs, map)
-}
-
-// Whether an event opens or commits at an address.
-fn names(event: &MapEvent, address: u16) -> bool
-    ensures { result ≡ names_address address event.now }
-{
-    address == event.open || address == event.commit
-}
-
-// Whether an event of these opens or commits at an address.
-fn is_named(events: &[MapEvent], address: u16) -> bool
-    ensures { result ≡ list_any (names_address address) events.now }
-{
-    events.iter().any(|event| names(event, address))
-}
-
-// Whether nothing arrived at a step and nothing was put on a port.
-fn is_silent(report: &Stepped) -> bool
-    ensures { result ≡ is_silent report.now }
-{
-    report.latched == 0 && report.merged == 0 && report.port.is_none()
-}
-
-/// Whether a step has no line. Most steps have none.
-pub(crate) fn is_quiet(map: &Map, report: &Stepped) -> bool
-    ensures { result ≡ is_quiet map.now (is_silent report.now) report.now.did }
-{
-    match report.did {
-        Did::Ran { address, .. } => {
-            is_silent(report) && !is_named(map.events.as_slice(), address)
-        }
-        Did::Took | Did::Stopped { .. } => false,
-    }
 }

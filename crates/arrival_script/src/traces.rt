@@ -11,7 +11,8 @@ ghost use Rattle.arrival_script.specs.Scripts.{IsScript};
 ghost use Rattle.arrival_script.specs.Sends.{Adds, Flushes, RiseFrom};
 ghost use Rattle.arrival_script.specs.Trace.{Traces, set_at, sets_of, start_of, step_lines};
 
-use crate::lines::{is_quiet, write_end, write_step};
+use crate::lines::{write_end, write_step};
+use crate::named::{is_plain, named_addresses};
 use crate::scripts::{Arrival, Script};
 use edge_io::{PutFault, Sink};
 use hex_file::Image;
@@ -115,7 +116,7 @@ fn flush<S: Sink>(alloc: Global, text: &mut String, out: &mut S) -> Result<(), T
     Ok(())
 }
 
-// Adds the lines of a step, and puts the text where it is long.
+// Adds the lines of a step, if any, and puts the text where it is long.
 fn tell_step<S: Sink>(
     alloc: Global,
     text: &mut String,
@@ -131,9 +132,6 @@ fn tell_step<S: Sink>(
     ensures failed { IsErrOf result TraceFault.Failed → Rose (S.put_faults out.old) (S.put_faults out.new) }
     ensures count { S.put_faults out.old ≤ S.put_faults out.new }
 {
-    if is_quiet(map, report) {
-        return Ok(());
-    }
     write_step(text, map, step, report, regs)?;
     if text.len() < PAGE {
         return Ok(());
@@ -161,6 +159,7 @@ pub fn trace<S: Sink>(
 {
     let mut chip = Chip::power_on(image, &start_of(s));
     let mut text = String::new(alloc);
+    let named = named_addresses(map.events.as_slice());
     let mut pending = s.arrivals.as_slice();
     let mut deepest = 0;
     for step in 0..s.steps {
@@ -168,6 +167,9 @@ pub fn trace<S: Sink>(
         pending = later;
         let report = chip.step(arrivals);
         deepest = greater(deepest, chip.depth());
+        if is_plain(&named, &report) {
+            continue;
+        }
         tell_step(alloc, &mut text, map, step, &report, chip.regs(), out)?;
         if let Some((address, why)) = stop_of(report.did) {
             flush(alloc, &mut text, out)?;

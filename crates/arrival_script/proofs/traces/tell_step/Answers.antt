@@ -1,12 +1,7 @@
-use Rattle.std.proofs.Common.{string_bytes, sym, ◌∙◌}
-use Rattle.arrival_script.proofs.TraceFacts.{quiet}
+use Rattle.std.proofs.Common.{string_bytes}
 use Rattle.arrival_script.proofs.RunFacts.{adds-memory}
-use Rattle.arrival_script.proofs.SendFacts.{sends-quiet, sends-kept, front-none, adds-flush}
+use Rattle.arrival_script.proofs.SendFacts.{sends-kept, front-none, adds-flush}
 use Rattle.arrival_script.proofs.traces.tell_step.Goals as goal
-
-pub returns-then-is_quiet-clause-sent : goal.returns-then-is_quiet-clause-sent
-returns-then-is_quiet-clause-sent g c = λ told report regs.
-    sends-quiet (g.S.Sink.taken c.args.out.now) (string_bytes c.args.text.now) _ (quiet c.args.map.now c.args.step told c.args.report.now report (sym c.is_quiet.ensures ∙ c.if-is_quiet.true))
 
 pub returns-in_err-write_step-clause-sent : goal.returns-in_err-write_step-clause-sent
 returns-in_err-write_step-clause-sent g c = λ told report regs.

@@ -7,8 +7,10 @@ use Rattle.pic_machine.specs.Run.{power_on}
 use Rattle.pic_machine.specs.Dids.{is_stop}
 use Rattle.arrival_script.specs.declared.traces.TraceFault.TheVariants as fault
 use Rattle.arrival_script.specs.Sends.{Sends}
-use Rattle.arrival_script.specs.Trace.{lines_of, GoesOn, deepest}
-use Rattle.arrival_script.proofs.SendFacts.{step-fails, stop-fails, stop-told, end-fails, end-flushed}
+use Rattle.arrival_script.specs.Trace.{step_lines, lines_of, GoesOn, deepest}
+use Rattle.arrival_script.specs.TraceParts.{Marks}
+use Rattle.arrival_script.proofs.TraceFacts.{quiet, quiet-goes}
+use Rattle.arrival_script.proofs.SendFacts.{sends-quiet, step-fails, stop-fails, stop-told, end-fails, end-flushed}
 use Rattle.arrival_script.proofs.RunFacts.{Running, log_of, chip_at, running-none, running-more, sent-more, step-is, registers-after, end-is, traces-error}
 use Rattle.arrival_script.proofs.traces.trace.Goals as goal
 
@@ -113,6 +115,30 @@ loop-step-preserved g c =
           (c.greater-deepest.ensures ∙ ap (λ d. max c.loop-step.deepest d) (c.depth.ensures ∙ ap (λ (x : Chip). x.depth) chip))
           (c.in_ok-tell_step.ensures.sent (lg k) report regs);
       count = omega (arith, c.loop-step.invariant.count, c.tell_step.ensures.count);
+    }
+
+pub loop-step-preserved-then-is_plain : goal.loop-step-preserved-then-is_plain
+loop-step-preserved-then-is_plain g c =
+    let m = c.args.map.now in
+    let image = c.args.image.now in
+    let s = c.args.s.now in
+    let k = c.loop-step.step in
+    let old = g.S.Sink.taken c.args.out.now in
+    let mid = g.S.Sink.taken c.loop-step.out in
+    let kept = string_bytes c.loop-step.text in
+    let so = c.loop-step.invariant.running in
+    let lg = log_of image s in
+    let inside : k < s.steps = omega arith in
+    let st = step-is m image s k c.loop-step.chip c.loop-step.pending.now c.loop-step.deepest old mid kept c.next_arrivals-arrivals.result.0 so inside c.next_arrivals-arrivals.ensures.set in
+    let report = c.step-report.ensures.report ∙ ap stepped st in
+    let chip = c.step-report.ensures.chip ∙ ap (λ (t : Step). t.after) st in
+    let told = c.is_plain.ensures c.if-is_plain.true m (subst (Marks c.named_addresses-named.result) c.as_slice.ensures c.named_addresses-named.ensures) in
+    record {
+      running = running-more m image s k c.loop-step.chip c.step-report.new.self c.loop-step.pending.now c.next_arrivals-arrivals.result.1.now c.loop-step.deepest c.greater-deepest.result old mid mid kept kept
+          so chip c.step-report.ensures.memory (quiet-goes m k (lg k) c.step-report.result report told) c.next_arrivals-arrivals.ensures.rise c.next_arrivals-arrivals.ensures.later
+          (c.greater-deepest.ensures ∙ ap (λ d. max c.loop-step.deepest d) (c.depth.ensures ∙ ap (λ (x : Chip). x.depth) chip))
+          (sends-quiet mid kept (step_lines m k (lg k)) (quiet m k (lg k) c.step-report.result report told));
+      count = c.loop-step.invariant.count;
     }
 
 pub returns-in_err-write_end-clause-traced : goal.returns-in_err-write_end-clause-traced
