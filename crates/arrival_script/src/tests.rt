@@ -78,18 +78,18 @@ fn each_cause_has_its_line(rt: HostRuntime) {
 #[test]
 fn returns_at_each_cut_and_change(rt: HostRuntime) -> Result<(), Fail> {
     let alloc = rt.alloc();
-    let mut faults = 0;
+    let mut faults = 0usize;
     for at in 0..WHOLE.len() {
         let (front, _) = WHOLE.split_at(at);
         if read_script(alloc, front).is_err() {
-            faults += 1;
+            faults = faults.saturating_add(1);
         }
         let mut text = Vec::from_slice(alloc, WHOLE)?;
         if let Some(byte) = text.get_mut(at) {
             *byte = 0xFF;
         }
         if read_script(alloc, text.as_slice()).is_err() {
-            faults += 1;
+            faults = faults.saturating_add(1);
         }
     }
     assert!(rt; faults > WHOLE.len());
