@@ -1,17 +1,13 @@
-use Rattle.std.specs.Prelude.{◌≡◌, ℕ, zero, suc, ◌+◌, ◌*◌, ◌<◌, true, false, ◌==◌, max, if◌then◌else◌, List, [], ◌∷◌, ◌++◌, map, Option, Some, None, Result, Ok, Err, codes, ◌⊎◌}
+use Rattle.std.specs.Prelude.{◌≡◌, ℕ, zero, suc, ◌+◌, ◌<◌, true, false, ◌==◌, max, if◌then◌else◌, List, [], ◌∷◌, ◌++◌, map, Option, Some, None, Result, Ok, Err, codes, ◌⊎◌}
 use Rattle.std.specs.List.{flat_map, range_with_len, repeat}
 use Rattle.std.specs.Fmt.{decimal}
 use Rattle.frp_tree.specs.Digits.{hex2}
-use Rattle.frp_tree.specs.declared.syntax.Ty.{Ty}
-use Rattle.frp_tree.specs.declared.syntax.Ty.TheVariants as ty
 use Rattle.edge_io.specs.Sinks.{Appends, AppendsFront}
 use Rattle.pic_isa.specs.declared.sources.Source.{Source}
 use Rattle.pic_isa.specs.Sources.{source_name}
 use Rattle.pic_isa.specs.Names.{name_of_port}
 use Rattle.pic_regs.specs.declared.starts.Start.{Start}
-use Rattle.pic_regs.specs.Bytes.{num}
-use Rattle.pic_regs.specs.Map.{reg_at}
-use Rattle.pic_regs.specs.Registers.{Registers, read}
+use Rattle.pic_regs.specs.Registers.{Registers}
 use Rattle.pic_regs.specs.Arrivals.{Sources, no_source, set_of}
 use Rattle.pic_machine.specs.declared.steps.Did.{Did}
 use Rattle.pic_machine.specs.declared.steps.Did.TheVariants.{Took, Ran, Stopped}
@@ -19,6 +15,7 @@ use Rattle.pic_machine.specs.declared.steps.PortWrite.{PortWrite}
 use Rattle.pic_machine.specs.Boundary.{Step}
 use Rattle.pic_machine.specs.Run.{Log}
 use Rattle.pic_machine.specs.Dids.{is_run_at, is_stop}
+use Rattle.pic_machine.specs.StateValues.{value_in}
 use Rattle.map_file.specs.declared.maps.MapEvent.{MapEvent}
 use Rattle.map_file.specs.declared.maps.MapState.{MapState}
 use Rattle.map_file.specs.declared.maps.Map.{Map}
@@ -70,15 +67,6 @@ open_line k did e = if is_run_at e.«open» did then step_line k (codes "open" �
 abbrev pub port_line : ℕ → Option PortWrite → List ℕ
 port_line k None = []
 port_line k (Some write) = step_line k (codes "port" ∷ name_of_port write.port ∷ hex2 write.byte ∷ [])
-
--- The value of a state, by the register map's read: its byte, or of a u16 the low byte and 256 times the high one.
-abbrev pub byte_at : Registers → ℕ → ℕ
-byte_at r address = num (read (reg_at address) r)
-
-abbrev pub value_in : Registers → Ty → ℕ → ℕ → ℕ
-value_in r ty.Bool low high = byte_at r low
-value_in r ty.U8 low high = byte_at r low
-value_in r ty.U16 low high = byte_at r low + 256 * byte_at r high
 
 -- A state's name and its value in decimal.
 abbrev pub state_field : Registers → MapState → List ℕ

@@ -8,9 +8,10 @@ ghost use Rattle.pic_regs.specs.State.{registers_of};
 ghost use Rattle.pic_machine.specs.Boundary.{Step, stepped};
 ghost use Rattle.pic_machine.specs.State.{chip_of};
 ghost use Rattle.pic_machine.specs.Dids.{is_run_at};
+ghost use Rattle.pic_machine.specs.StateValues.{value_in};
 ghost use Rattle.map_file.specs.MapRules.{IsMap, IsState};
 ghost use Rattle.map_file.specs.MapText.{line};
-ghost use Rattle.arrival_script.specs.Trace.{arrival_line, commit_line, open_line, port_line, state_fields, state_field, step_line, step_lines, take_line, value_in};
+ghost use Rattle.arrival_script.specs.Trace.{arrival_line, commit_line, open_line, port_line, state_fields, state_field, step_line, step_lines, take_line};
 ghost use Rattle.arrival_script.specs.TraceParts.{spaced};
 
 use crate::entries::has;

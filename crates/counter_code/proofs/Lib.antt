@@ -5,7 +5,6 @@ pub mod BoundFacts
 pub mod CodeFacts
 pub mod FirmwareOf
 pub mod Follows
-pub mod Listed
 pub mod ListedFacts
 pub mod ListsRightlyOf
 pub mod MapFacts

@@ -10,7 +10,7 @@ use Rattle.counter_code.proofs.RangeFacts.{ranges_rise}
 
 pub map_rules : (c : Counter) → IsCounter c → IsMap (map_of c)
 map_rules c fine = record {
-  events = (record { name = fine.event; above_zero = fine.above_zero; priority = fine.priority; opens = lit< tt; commits = lit< tt }, tt);
+  events = (record { name = fine.event; priority = fine.priority; opens = lit< tt; commits = lit< tt }, tt);
   event_names = (tt, tt);
   sources = (tt, tt);
   event_limit = lit≤ tt;

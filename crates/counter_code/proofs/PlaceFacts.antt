@@ -4,7 +4,7 @@ use Rattle.std.proofs.Common.{◌≡◌, refl, sym, ap, subst, ◌∙◌, arith}
 use Rattle.pic_isa.specs.declared.sources.Source.{Source}
 use Rattle.pic_regs.specs.Bytes.{Byte, bits, num, one_if}
 use Rattle.pic_regs.specs.Map.{Reg}
-use Rattle.pic_regs.specs.Registers.{flag}
+use Rattle.pic_regs.specs.Registers.{flag, byte_at}
 use Rattle.pic_regs.specs.Arrivals.{Sources, arrived}
 use Rattle.pic_regs.proofs.ArrivalFacts.{flag-arrived}
 use Rattle.pic_regs.proofs.ByteFacts.{num-bits}
@@ -18,7 +18,6 @@ use Rattle.counter_code.specs.Counters.{IsCounter}
 use Rattle.counter_code.specs.Layout.{state_byte, is_peripheral, image_of, ready_address, open_address, commit_address}
 use Rattle.stack_bound.specs.Counts.{ran_at, interrupts_on, latches, clears, put_by}
 use Rattle.stack_bound.specs.Counts as counts
-use Rattle.stack_bound.specs.MapNames.{byte_at}
 use Rattle.stack_bound.specs.Urgent.{is_heard}
 use Rattle.counter_code.proofs.Story.{Place, Rests, Clears, Opens, Commits, rests, is_clearing, is_opening, is_committing, next, event_in_map, value_after, puts_at}
 use Rattle.counter_code.proofs.Spots.{Kind, NoSetup, LowSetup, HighSetup, kind_of, ready_at, ready_is}
@@ -35,8 +34,8 @@ pub record Facts (c : Counter) (place : Place) (x : Chip) (step : Step) : Type 0
   pub clears_when : clears c.source step ≡ is_clearing place
   pub on_when : interrupts_on step ≡ rests place
   pub hears_when : is_heard (event_in_map c) step ≡ rests place
-  pub values : byte_at step.after state_byte ≡ value_after c place (byte_at x state_byte)
-  pub puts : put_by step.port ≡ puts_at c place (byte_at x state_byte)
+  pub values : byte_at step.after.regs state_byte ≡ value_after c place (byte_at x.regs state_byte)
+  pub puts : put_by step.port ≡ puts_at c place (byte_at x.regs state_byte)
   pub ledger : one_if (flag c.source x.regs) + one_if (latches c.source step) ≡ one_if (flag c.source step.after.regs) + one_if (clears c.source step)
   pub goes_on : is_stop step.did ≡ false
   pub listed : Listed c step.wrote
@@ -98,11 +97,11 @@ module _ (c : Counter) (fine : IsCounter c) (target : Reg) (is_aimed : Aimed c.s
   abbrev step_from : Sources → Chip → Step
   step_from arrivals x = boundary (program_of (image_of c)) arrivals x
 
-  values_of : (place : Place) (x : Chip) (step : Step) → Stays c target place x → Runs c place x step → byte_at step.after state_byte ≡ value_after c place (byte_at x state_byte)
+  values_of : (place : Place) (x : Chip) (step : Step) → Stays c target place x → Runs c place x step → byte_at step.after.regs state_byte ≡ value_after c place (byte_at x.regs state_byte)
   values_of Opens x step h r = ap (λ (memory : ℕ → Byte). num (memory state_byte)) r.plain ∙ ap num h.w ∙ grown c fine.step (x.regs.plain state_byte)
   values_of _ x step h r = ap (λ (memory : ℕ → Byte). num (memory state_byte)) r.plain
 
-  puts_of : (place : Place) (x : Chip) (step : Step) → Stays c target place x → Runs c place x step → put_by step.port ≡ puts_at c place (byte_at x state_byte)
+  puts_of : (place : Place) (x : Chip) (step : Step) → Stays c target place x → Runs c place x step → put_by step.port ≡ puts_at c place (byte_at x.regs state_byte)
   puts_of Commits x step h r = ap put_by r.port ∙ ap (λ w. put_by (Some (record { port = c.port; byte = num w }))) h.w
   puts_of _ x step h r = ap put_by r.port
 

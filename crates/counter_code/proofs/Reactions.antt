@@ -10,7 +10,7 @@ use Rattle.counter_code.specs.declared.counters.Counter.{Counter}
 use Rattle.counter_code.specs.Counters.{program_of}
 use Rattle.counter_code.specs.Layout.{state_byte, open_address, commit_address}
 use Rattle.counter_code.specs.Maps.{map_of}
-use Rattle.stack_bound.specs.MapNames.{byte_at}
+use Rattle.pic_regs.specs.Registers.{byte_at}
 use Rattle.stack_bound.specs.Counts.{chip_after, takes, ran_at, opened_by, committed_by, opens, commits, port_writes, put_by}
 use Rattle.stack_bound.specs.Follows.{setup_puts}
 use Rattle.stack_bound.proofs.CountFacts.{opens_none, commits_none, one_more}
@@ -100,16 +100,16 @@ module _ (c : Counter) (log : Log) (story : Story c log) where
   commits_are zero = commits_in_boot story.ready (omega arith)
   commits_are (suc k) = ap₂ (λ before here. before ++ here) (commits_are k) (committed_at k) ∙ one_event_more c (is_committing (story.place k)) (committed story.place k)
 
-  pub value_is : (k : ℕ) → byte_at (chip_after log (past story.ready k)) state_byte ≡ value c (opened story.place k)
+  pub value_is : (k : ℕ) → byte_at (chip_after log (past story.ready k)).regs state_byte ≡ value c (opened story.place k)
   value_is zero = story.value_at_ready
   value_is (suc k) =
       story.values k
-      ∙ one_value_more c (is_opening (story.place k)) (byte_at (chip_after log (past story.ready k)) state_byte) (opened story.place k) (value_is k)
+      ∙ one_value_more c (is_opening (story.place k)) (byte_at (chip_after log (past story.ready k)).regs state_byte) (opened story.place k) (value_is k)
 
   put_at : (k : ℕ) → put_by (log (past story.ready k)).port ≡ written c (is_committing (story.place k)) (value c (suc (committed story.place k)))
   put_at k =
       story.puts k
-      ∙ one_write c (is_committing (story.place k)) (byte_at (chip_after log (past story.ready k)) state_byte) (opened story.place k) (committed story.place k) (value_is k) (window_is k)
+      ∙ one_write c (is_committing (story.place k)) (byte_at (chip_after log (past story.ready k)).regs state_byte) (opened story.place k) (committed story.place k) (value_is k) (window_is k)
 
   pub writes_are : (k : ℕ) → port_writes log (past story.ready k) ≡ setup_puts (program_of c) ++ writes c (committed story.place k)
   writes_are zero = story.puts_at_ready ∙ sym (append-nil (setup_puts (program_of c)))

@@ -7,7 +7,7 @@ use Rattle.pic_isa.specs.declared.sources.Source.{Source}
 use Rattle.pic_regs.specs.declared.starts.Start.{Start}
 use Rattle.pic_regs.specs.Bytes.{num, bits}
 use Rattle.pic_regs.specs.Map.{Reg, Port, Tris, Plain, within, existing, reg_at}
-use Rattle.pic_regs.specs.Registers.{Registers, read}
+use Rattle.pic_regs.specs.Registers.{Registers, read, byte_at}
 use Rattle.pic_regs.specs.Arrivals.{Sources}
 use Rattle.pic_regs.proofs.SetupRegisters.{Suits}
 use Rattle.pic_machine.specs.Chip.{Chip}
@@ -20,7 +20,6 @@ use Rattle.counter_code.specs.Counters.{IsCounter, IsSetup, setups_of}
 use Rattle.counter_code.specs.Layout.{image_of}
 use Rattle.counter_code.specs.Maps.{map_of}
 use Rattle.stack_bound.specs.Counts.{chip_after, clears}
-use Rattle.stack_bound.specs.MapNames.{byte_at}
 use Rattle.stack_bound.specs.Ready.{BeforeReady}
 use Rattle.stack_bound.specs.Boots.{FlagsStay}
 use Rattle.stack_bound.specs.Setups.{SetupsStand, last_setup}
@@ -98,10 +97,10 @@ module _ (c : Counter) (fine : IsCounter c) (start : Start) (list : List Sources
       (λ n less. shallow_by n 0 (ap (λ (y : Chip). y.depth) (way n less).here.known) (lit≤ tt))
       (λ k. shallow_by (past (boot_steps c) k) (depth_at (place_in the_log (boot_steps c) k)) (ap (λ (y : Chip). y.depth) (stays c fine start list k).held) (at_most_1 (place_in the_log (boot_steps c) k)))
 
-  setup_stands : (k a byte : ℕ) → boot_steps c ≤ k → within 5 9 a ≡ false → last_setup (setups_of c.setup) a ≡ Some byte → byte_at (chip_after the_log k) a ≡ num (existing (reg_at a) (bits byte))
+  setup_stands : (k a byte : ℕ) → boot_steps c ≤ k → within 5 9 a ≡ false → last_setup (setups_of c.setup) a ≡ Some byte → byte_at (chip_after the_log k).regs a ≡ num (existing (reg_at a) (bits byte))
   setup_stands k a byte later other e =
       let stood : Stands target (byte_of c.setup) (chip_at c start list k).regs = from_ready (boot_steps c) (λ n. Stands target (byte_of c.setup) (chip_at c start list n).regs) (λ j. (stays c fine start list j).stands) k later in
-      ap (λ y. byte_at y a) (same k) ∙ setup_reads c.setup target (chip_at c start list k).regs a byte fine.setup is_aimed stood other e
+      ap (λ y. byte_at y.regs a) (same k) ∙ setup_reads c.setup target (chip_at c start list k).regs a byte fine.setup is_aimed stood other e
 
   pub setups_stand : (n : ℕ) → SetupsStand (programs.program_of c) (map_of c) the_log n
   setups_stand n r k a byte is_it from to other e =

@@ -1,14 +1,13 @@
 -- What a log tells of a counter, with nothing of the chip's insides: all that the promises need.
 use Rattle.std.specs.Prelude.{◌≡◌, ℕ, zero, suc, ◌+◌, ◌%◌, ◌<◌, ◌≤◌, Bool, true, false, ◌&&◌, List, [], ◌∷◌, take, if◌then◌else◌}
 use Rattle.pic_regs.specs.Bytes.{one_if}
-use Rattle.pic_regs.specs.Registers.{flag}
+use Rattle.pic_regs.specs.Registers.{flag, byte_at}
 use Rattle.pic_machine.specs.declared.steps.PortWrite.{PortWrite}
 use Rattle.pic_machine.specs.Run.{Log}
 use Rattle.map_file.specs.declared.maps.MapEvent.{MapEvent}
 use Rattle.counter_code.specs.declared.counters.Counter.{Counter}
 use Rattle.counter_code.specs.Counters.{program_of}
 use Rattle.counter_code.specs.Layout.{state_byte, open_address, commit_address, ready_address}
-use Rattle.stack_bound.specs.MapNames.{byte_at}
 use Rattle.stack_bound.specs.Counts.{chip_after, takes, interrupts_on, ran_at, latches, clears, port_writes, put_by}
 use Rattle.stack_bound.specs.Follows.{setup_puts}
 use Rattle.stack_bound.specs.Urgent.{is_heard}
@@ -80,7 +79,7 @@ pub record Story (c : Counter) (log : Log) : Type 0 where
   pub boot_clears : (k : ℕ) → k < ready → clears c.source (log k) ≡ false
   pub boot_puts : (k : ℕ) → k ≤ ready → (i : ℕ) × (port_writes log k ≡ take i (setup_puts (program_of c)))
   pub puts_at_ready : port_writes log ready ≡ setup_puts (program_of c)
-  pub value_at_ready : byte_at (chip_after log ready) state_byte ≡ c.init
+  pub value_at_ready : byte_at (chip_after log ready).regs state_byte ≡ c.init
   -- From then on: the place after each step, by whether an interrupt is taken.
   pub place : ℕ → Place
   pub begins : place 0 ≡ Rests
@@ -94,8 +93,8 @@ pub record Story (c : Counter) (log : Log) : Type 0 where
   -- GIE is on where control rests, and there alone, and the event is heard there.
   pub on_when : (k : ℕ) → interrupts_on (log (past ready k)) ≡ rests (place k)
   pub hears_when : (k : ℕ) → is_heard (event_in_map c) (log (past ready k)) ≡ rests (place k)
-  pub values : (k : ℕ) → byte_at (chip_after log (suc (past ready k))) state_byte ≡ value_after c (place k) (byte_at (chip_after log (past ready k)) state_byte)
-  pub puts : (k : ℕ) → put_by (log (past ready k)).port ≡ puts_at c (place k) (byte_at (chip_after log (past ready k)) state_byte)
+  pub values : (k : ℕ) → byte_at (chip_after log (suc (past ready k))).regs state_byte ≡ value_after c (place k) (byte_at (chip_after log (past ready k)).regs state_byte)
+  pub puts : (k : ℕ) → put_by (log (past ready k)).port ≡ puts_at c (place k) (byte_at (chip_after log (past ready k)).regs state_byte)
   -- At each step, in the boot too: a latch sets the flag, which is clear before any step; a clearing clears it, and nothing
   -- else changes it.
   pub arrival : (n : ℕ) → one_if (flag c.source (chip_after log n).regs) + one_if (latches c.source (log n)) ≡ one_if (flag c.source (log n).arrived.regs)

@@ -8,7 +8,7 @@ use Rattle.pic_isa.specs.declared.sources.Source.TheVariants.{T0}
 use Rattle.pic_regs.specs.declared.starts.Start.{Start}
 use Rattle.pic_regs.specs.Bytes.{num, one_if}
 use Rattle.pic_regs.specs.Map.{Reg}
-use Rattle.pic_regs.specs.Registers.{Registers, flag}
+use Rattle.pic_regs.specs.Registers.{Registers, flag, byte_at}
 use Rattle.pic_regs.specs.Arrivals.{Sources}
 use Rattle.pic_regs.specs.Start.{registers_on}
 use Rattle.pic_regs.proofs.ByteFacts.{num-bits}
@@ -22,7 +22,6 @@ use Rattle.counter_code.specs.Counters as programs
 use Rattle.counter_code.specs.Counters.{IsCounter, setups_of}
 use Rattle.counter_code.specs.Layout.{state_byte, in_bank_1, is_peripheral, image_of, ready_address, open_address, commit_address}
 use Rattle.stack_bound.specs.Counts.{chip_after, takes, latches, clears, port_writes}
-use Rattle.stack_bound.specs.MapNames.{byte_at}
 use Rattle.stack_bound.specs.Follows.{setup_puts}
 use Rattle.stack_bound.proofs.Heard.{chip_after_is_of_the_run}
 use Rattle.counter_code.proofs.Past.{each_moment}
@@ -138,9 +137,9 @@ module _ (c : Counter) (fine : IsCounter c) (start : Start) (list : List Sources
       let at_end : ready ≡ n = omega (arith, h, more) in
       subst (λ m. (i : ℕ) × (port_writes the_log m ≡ take i (setup_puts (programs.program_of c)))) at_end (some.0, end.puts ∙ some.1)
 
-  first_value : byte_at (chip_after the_log ready) state_byte ≡ c.init
+  first_value : byte_at (chip_after the_log ready).regs state_byte ≡ c.init
   first_value =
-      ap (λ y. byte_at y state_byte) (same ready) ∙ ap num (end.stored refl) ∙ num-bits c.init ∙ (let e : c.init % 256 ≡ c.init = omega (arith, fine.init) in e)
+      ap (λ y. byte_at y.regs state_byte) (same ready) ∙ ap num (end.stored refl) ∙ num-bits c.init ∙ (let e : c.init % 256 ≡ c.init = omega (arith, fine.init) in e)
 
   abbrev Ledger : ℕ → Type 0
   Ledger n = one_if (flag c.source (chip_after the_log n).regs) + one_if (latches c.source (the_log n)) ≡ one_if (flag c.source (chip_after the_log (suc n)).regs) + one_if (clears c.source (the_log n))
@@ -180,8 +179,8 @@ module _ (c : Counter) (fine : IsCounter c) (start : Start) (list : List Sources
     clears_when = λ k. (facts k).clears_when;
     on_when = λ k. (facts k).on_when;
     hears_when = λ k. (facts k).hears_when;
-    values = λ k. (facts k).values ∙ ap (λ y. value_after c (place k) (byte_at y state_byte)) (sym (same (past ready k)));
-    puts = λ k. (facts k).puts ∙ ap (λ y. puts_at c (place k) (byte_at y state_byte)) (sym (same (past ready k)));
+    values = λ k. (facts k).values ∙ ap (λ y. value_after c (place k) (byte_at y.regs state_byte)) (sym (same (past ready k)));
+    puts = λ k. (facts k).puts ∙ ap (λ y. puts_at c (place k) (byte_at y.regs state_byte)) (sym (same (past ready k)));
     arrival = λ n. ap (λ (y : Chip). one_if (flag c.source y.regs) + one_if (latches c.source (the_log n))) (same n) ∙ flag-latched c.source (arrivals_of list n) (x n);
     flag_at_first = flag_first c.source start;
     ledger = ledger;

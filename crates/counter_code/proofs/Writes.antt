@@ -1,6 +1,6 @@
 -- Each register that a counter's code writes is listed in its map.
 use Rattle.std.specs.Prelude.{ℕ, ◌<◌, true, false, ◌||◌, ◌==◌, cond, List, Option, Some, None, IfSome}
-use Rattle.std.proofs.Common.{◌≡◌, refl, sym, ap, subst, ◌∙◌, arith, lit<, lit≤}
+use Rattle.std.proofs.Common.{◌≡◌, refl, sym, ap, subst, ◌∙◌, arith, lit<}
 use Rattle.std.proofs.lemmas.Bool.{or_left, or_right, eq-eqb}
 use Rattle.pic_isa.specs.declared.sources.Source.{Source}
 use Rattle.pic_isa.specs.declared.sources.Source.TheVariants.{T0, Int}
@@ -18,14 +18,14 @@ use Rattle.counter_code.proofs.Spots.{LowSetup, HighSetup, Spot, StoresInit, Sto
 use Rattle.counter_code.proofs.BootSteps.{is_high, register_of}
 use Rattle.counter_code.proofs.Targets.{Aimed, has_setup, is_there}
 use Rattle.counter_code.proofs.PlaceSteps.{wrote_at}
-use Rattle.counter_code.proofs.Listed.{has_each}
+use Rattle.counter_code.proofs.ListedFacts.{listed_is_written}
 
 -- The map lists an address that the code writes.
 abbrev pub Listed : Counter → Option ℕ → Type 0
 Listed c wrote = IfSome wrote (λ a. is_listed (map_of c) a ≡ true)
 
 listed : (c : Counter) (a : ℕ) → a < 512 → is_written c a ≡ true → Listed c (Some a)
-listed c a small e = has_each 512 (is_written c) a (lit≤ tt) small e
+listed c a small e = listed_is_written c a small ∙ e
 
 -- By the parts of what is written: the port, the flag, the enable, the setup's register, and STATUS.
 port_written : (c : Counter) → is_written c (port_address c.port) ≡ true

@@ -1,4 +1,5 @@
-use Rattle.std.specs.Prelude.{◌≡◌, ◌≢◌, ℕ, ◌<◌, ◌≤◌, false, List, [], ◌∷◌, ◌++◌, Option, Some, None, IfSome, IsTrue, codes}
+use Rattle.std.specs.Prelude.{◌≡◌, ◌≢◌, ℕ, ◌<◌, false, List, [], ◌∷◌, ◌++◌, Option, Some, None, IfSome, IsTrue, codes}
+use Rattle.frp_tree.specs.Causal.{IsPriority}
 use Rattle.frp_tree.specs.Names.{is_name, is_keyword}
 use Rattle.frp_tree.specs.declared.syntax.Ty.TheVariants.{U8}
 use Rattle.frp_tree.specs.declared.syntax.Lit.TheVariants as lit
@@ -21,8 +22,7 @@ IsSetup s = (register_at s.register ≡ Some s.address) × (s.byte < 256)
 pub record IsCounter (c : Counter) : Type 0 where
   pub event : IsTrue (is_name c.event)
   pub event_no_keyword : is_keyword c.event ≡ false
-  pub above_zero : 0 < c.priority
-  pub priority : c.priority ≤ 11
+  pub priority : IsPriority c.priority
   pub setup : IfSome c.setup IsSetup
   pub name : IsTrue (is_name c.name)
   pub name_no_keyword : is_keyword c.name ≡ false

@@ -6,4 +6,3 @@ pub mod RunSteps
 pub mod Sources
 pub mod StatusLaws
 pub mod Summaries
-pub mod Writable

@@ -55,7 +55,6 @@ read_counter tokens t1 t2 t3 event decl source priority init step port setup all
     record {
       event = behind.1.0;
       event_no_keyword = event_item.no_keyword;
-      above_zero = event_item.above_zero;
       priority = event_item.in_range;
       setup = setup_item;
       name = (well_formed_behind (optional_setup_tokens setup) _ behind.1.1.1.1.1.1.1).1.0;

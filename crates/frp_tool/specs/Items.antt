@@ -1,4 +1,5 @@
-use Rattle.std.specs.Prelude.{◌≡◌, ℕ, ◌<◌, ◌≤◌, false, List, Option, Some, None, IsTrue}
+use Rattle.std.specs.Prelude.{◌≡◌, ℕ, false, List, Option, Some, None, IsTrue}
+use Rattle.frp_tree.specs.Causal.{IsPriority}
 use Rattle.frp_tree.specs.Names.{is_keyword, is_name}
 use Rattle.frp_tree.specs.declared.tokens.Token.{Token}
 use Rattle.frp_tree.specs.declared.tokens.Token.TheVariants.{Word, Num, Wide, Mark}
@@ -8,8 +9,7 @@ use Rattle.frp_tool.specs.declared.items.SetupItem.{SetupItem}
 -- An event has a name and a priority from 1 to 11.
 pub record IsEventItem (name : List ℕ) (priority : ℕ) : Type 0 where
   pub no_keyword : is_keyword name ≡ false
-  pub above_zero : 0 < priority
-  pub in_range : priority ≤ 11
+  pub in_range : IsPriority priority
 
 -- A word of the text has the form and the length of a name.
 abbrev pub IsWellFormed : Token → Type 0

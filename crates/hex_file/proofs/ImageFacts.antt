@@ -26,7 +26,7 @@ held_at x y xs (suc k) below e = inr (k, omega arith, e)
 pub held : {X : Type 0} (x y : X) (xs : List X) → Contains (x ∷ xs) y → (x ≡ y) ⊎ Contains xs y
 held x y xs among = held_at x y xs among.0 among.1 among.2
 
-rising_rest : (k : ℕ) (ks : List ℕ) → IsStrictlyIncreasing (k ∷ ks) → IsStrictlyIncreasing ks
+pub rising_rest : (k : ℕ) (ks : List ℕ) → IsStrictlyIncreasing (k ∷ ks) → IsStrictlyIncreasing ks
 rising_rest k ks rising i below =
     let next : suc i + 1 ≡ suc (i + 1) = omega arith in
     let rises = rising (suc i) (omega arith) in rw next at rises

@@ -22,5 +22,6 @@ pub mod TableFacts
 pub mod TableImage
 pub mod TextLines
 pub mod UniqueFacts
+pub mod Writable
 pub mod WrittenMeans
 pub mod WrittenRecords

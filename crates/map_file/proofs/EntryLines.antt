@@ -109,7 +109,7 @@ addresses_visible ty.U16 low high = (hex3_visible low, (hex3_visible high, tt))
 pub fields_visible : (e : Entry) → IsEntry e → AllVisible (fields_of e)
 fields_visible entry.Head h = (refl, (refl, (refl, tt)))
 fields_visible (entry.Event e) h =
-    (refl, (name_visible e.name h.name, (source_visible e.source, (decimal_visible e.priority (omega (arith, h.priority)), (refl, (hex4_visible e.«open», (refl, (hex4_visible e.commit, tt))))))))
+    (refl, (name_visible e.name h.name, (source_visible e.source, (decimal_visible e.priority (omega (arith, h.priority.1)), (refl, (hex4_visible e.«open», (refl, (hex4_visible e.commit, tt))))))))
 fields_visible (entry.State s) h = (refl, (name_visible s.name h.name, (type_visible s.ty, addresses_visible s.ty s.low s.high)))
 fields_visible (entry.Output port) h = (refl, (port_visible port, tt))
 fields_visible (entry.Ready address) h = (refl, (hex4_visible address, tt))
@@ -174,7 +174,7 @@ one_event : (e d : MapEvent) → IsEvent e → IsEvent d → event_fields e ≡ 
 one_event e d h k q =
     let name : e.name ≡ d.name = cc in
     let source = one_source e.source d.source (cc) in
-    let priority = decimal_injective e.priority d.priority (omega (arith, h.priority)) (omega (arith, k.priority)) (cc) in
+    let priority = decimal_injective e.priority d.priority (omega (arith, h.priority.1)) (omega (arith, k.priority.1)) (cc) in
     let opens = one_hex4 e.«open» d.«open» h.opens k.opens (cc) in
     let commits = one_hex4 e.commit d.commit h.commits k.commits (cc) in
     λ i. record { name = name i; source = source i; priority = priority i; «open» = opens i; commit = commits i }

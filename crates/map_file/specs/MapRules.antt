@@ -1,5 +1,6 @@
 use Rattle.std.specs.Prelude.{◌≡◌, ◌≢◌, ℕ, ◌<◌, ◌≤◌, ◌+◌, ◌^◌, List, [], ◌∷◌, length, IsTrue}
 use Rattle.std.specs.List.{AllByRecursion}
+use Rattle.frp_tree.specs.Causal.{IsPriority}
 use Rattle.frp_tree.specs.Names.{is_name}
 use Rattle.frp_tree.specs.declared.syntax.Ty.{Ty}
 use Rattle.frp_tree.specs.declared.syntax.Ty.TheVariants.{Bool, U8, U16}
@@ -17,8 +18,7 @@ IsData address = address < 0x200
 
 pub record IsEvent (e : MapEvent) : Type 0 where
   pub name : IsTrue (is_name e.name)
-  pub above_zero : 0 < e.priority
-  pub priority : e.priority ≤ 11
+  pub priority : IsPriority e.priority
   pub opens : IsCode e.«open»
   pub commits : IsCode e.commit
 

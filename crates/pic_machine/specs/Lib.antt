@@ -6,3 +6,4 @@ pub mod Memory
 pub mod Results
 pub mod Run
 pub mod State
+pub mod StateValues

@@ -1,8 +1,8 @@
 use Rattle.std.specs.Prelude.{ℕ, Bool, ◌&&◌, ◌||◌}
 use Rattle.pic_isa.specs.declared.sources.Source.{Source}
 use Rattle.pic_isa.specs.declared.sources.Source.TheVariants.{T0, Int, Psp, Ad, Ssp, Ccp1, Tmr2, Tmr1, Ee, Bcl, Ccp2}
-use Rattle.pic_regs.specs.Bytes.{Byte, zeros, chosen, share_a_bit, updated}
-use Rattle.pic_regs.specs.Map.{Reg, Absent, Indf, Pcl, Status, Fsr, Pclath, Intcon, Pir1, Pir2, Pie1, Pie2, Port, Tris, Plain, existing, over}
+use Rattle.pic_regs.specs.Bytes.{Byte, num, zeros, chosen, share_a_bit, updated}
+use Rattle.pic_regs.specs.Map.{Reg, Absent, Indf, Pcl, Status, Fsr, Pclath, Intcon, Pir1, Pir2, Pie1, Pie2, Port, Tris, Plain, existing, over, reg_at}
 
 -- The registers of the chip: those that control depends on, the latch, TRIS and pins of each port by its number, and
 -- all other bytes by their lowest address.
@@ -41,6 +41,10 @@ held (Plain address) r = r.plain address
 -- What a read of a register gives: what it holds, with 0 at each bit that does not exist.
 abbrev pub read : Reg → Registers → Byte
 read reg r = existing reg (held reg r)
+
+-- The byte that stands at a data address.
+abbrev pub byte_at : Registers → ℕ → ℕ
+byte_at r address = num (read (reg_at address) r)
 
 -- The registers with the byte of one of them changed: a port's is its latch.
 abbrev pub changed : Reg → (Byte → Byte) → Registers → Registers

@@ -12,7 +12,8 @@ use Rattle.counter_code.specs.Counters.{program_of}
 use Rattle.counter_code.specs.Layout.{image_of}
 use Rattle.counter_code.specs.Maps.{map_of}
 use Rattle.stack_bound.specs.Counts.{commits, port_writes, chip_after}
-use Rattle.stack_bound.specs.MapNames.{states_in, byte_at}
+use Rattle.pic_regs.specs.Registers.{byte_at}
+use Rattle.stack_bound.specs.MapNames.{states_in}
 use Rattle.run_examples.proofs.Counting.{counter_of, pins_out, start, quiet, alone, puts}
 
 -- The run of a counter where a source arrives at boundary 20 and nothing else does.
@@ -71,5 +72,5 @@ shows_the_setup_first = refl
 abbrev option_first : Option SetupAt
 option_first = Some (record { register = codes "OPTION_REG"; address = 0x081; byte = 0x87 })
 
-option_is_set_up : byte_at (chip_after (on_one (counter_of Ccp2 option_first 0 1 2) Ccp2) 30) 0x081 ≡ 0x87
+option_is_set_up : byte_at (chip_after (on_one (counter_of Ccp2 option_first 0 1 2) Ccp2) 30).regs 0x081 ≡ 0x87
 option_is_set_up = refl

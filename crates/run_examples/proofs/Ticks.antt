@@ -8,7 +8,8 @@ use Rattle.counter_code.specs.Maps as maps
 use Rattle.stack_bound.specs.Counts.{commits, opens, port_writes, chip_after, count, latched_count, cleared_count, commit_count}
 use Rattle.stack_bound.specs.Firmware.{count_below}
 use Rattle.stack_bound.specs.Follows.{reaction_puts}
-use Rattle.stack_bound.specs.MapNames.{states_in, byte_at}
+use Rattle.pic_regs.specs.Registers.{byte_at}
+use Rattle.stack_bound.specs.MapNames.{states_in}
 use Rattle.run_examples.proofs.Counting.{program, image, counter_map, tick_event, two_ticks, puts, fits, writes_listed}
 
 -- The words, as the data sheet writes MOVLW 0; MOVWF 20h; BSF STATUS,5; GOTO 00Ah, the handler, and the rest of the boot.
@@ -24,18 +25,18 @@ busy_after_8 : (chip_after two_ticks 8).pc ≡ 14
 busy_after_8 = refl
 
 -- What is set up stands.
-tris_is_set_up : byte_at (chip_after two_ticks 9) 0x087 ≡ 0
+tris_is_set_up : byte_at (chip_after two_ticks 9).regs 0x087 ≡ 0
 tris_is_set_up = refl
 
 -- INTCON has GIE and T0's enable.
-interrupts_are_on : byte_at (chip_after two_ticks 9) 0x00B ≡ 0xA0
+interrupts_are_on : byte_at (chip_after two_ticks 9).regs 0x00B ≡ 0xA0
 interrupts_are_on = refl
 
 -- RAM is as it was at power-on, but for the state.
 state_begins : states_in counter_map (chip_after two_ticks 9) ≡ 0 ∷ []
 state_begins = refl
 
-other_ram_stands : byte_at (chip_after two_ticks 9) 0x021 ≡ 0xFF
+other_ram_stands : byte_at (chip_after two_ticks 9).regs 0x021 ≡ 0xFF
 other_ram_stands = refl
 
 -- The arrivals are taken where they come.
@@ -86,7 +87,7 @@ both_counted = refl
 port_shows_1_and_2 : port_writes two_ticks 25 ≡ puts 2 1 ∷ puts 2 2 ∷ []
 port_shows_1_and_2 = refl
 
-port_holds_2 : byte_at (chip_after two_ticks 25) 0x007 ≡ 2
+port_holds_2 : byte_at (chip_after two_ticks 25).regs 0x007 ≡ 2
 port_holds_2 = refl
 
 state_is_2 : states_in counter_map (chip_after two_ticks 25) ≡ 2 ∷ []

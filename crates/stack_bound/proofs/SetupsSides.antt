@@ -7,7 +7,7 @@ use Rattle.pic_regs.specs.Map.{within, reg_at, existing}
 use Rattle.pic_machine.specs.Chip.{Chip}
 use Rattle.pic_machine.specs.Boundary.{Step}
 use Rattle.pic_machine.specs.Run.{Log}
-use Rattle.stack_bound.specs.MapNames.{byte_at}
+use Rattle.pic_regs.specs.Registers.{byte_at}
 use Rattle.stack_bound.specs.Counts.{chip_after}
 use Rattle.stack_bound.specs.Ready.{ShowsReady}
 use Rattle.stack_bound.specs.Setups.{SetupsStand, last_setup}
@@ -39,7 +39,7 @@ held_in_trisb : num (existing (reg_at 0x086) (bits 0xFF)) ≡ 0xFF
 held_in_trisb = refl
 
 -- The good log keeps 0 in TRISB for good.
-zero_at : (k : ℕ) → byte_at (chip_after good k) 0x086 ≡ 0
+zero_at : (k : ℕ) → byte_at (chip_after good k).regs 0x086 ≡ 0
 zero_at zero = refl
 zero_at (suc zero) = refl
 zero_at (suc (suc zero)) = refl
@@ -52,7 +52,7 @@ zero_at (suc (suc (suc (suc (suc (suc (suc (suc k)))))))) = refl
 
 -- Setups stand there at each moment: no other register than TRISB is asked for, as PORTB is a port.
 abbrev Stands : (k a byte : ℕ) → Type 0
-Stands k a byte = byte_at (chip_after good k) a ≡ num (existing (reg_at a) (bits byte))
+Stands k a byte = byte_at (chip_after good k).regs a ≡ num (existing (reg_at a) (bits byte))
 
 abbrev given : Bool → Bool → Option ℕ
 given port tris = elim (if tris then Some 0 else None) [ Some byte ↦ Some byte | None ↦ (if port then Some 7 else None) ]

@@ -6,7 +6,7 @@ use Rattle.pic_regs.specs.Bytes.{num, bits}
 use Rattle.pic_regs.specs.Map.{within, reg_at, existing}
 use Rattle.pic_machine.specs.Run.{Log}
 use Rattle.map_file.specs.declared.maps.Map.{Map}
-use Rattle.stack_bound.specs.MapNames.{byte_at}
+use Rattle.pic_regs.specs.Registers.{byte_at}
 use Rattle.stack_bound.specs.Counts.{chip_after}
 use Rattle.stack_bound.specs.Ready.{ReadyAt}
 
@@ -23,4 +23,4 @@ last_setup (s ∷ ss) a = elim (last_setup ss a) [ Some byte ↦ Some byte | Non
 -- exist.
 abbrev pub SetupsStand : ProgramTree → Map → Log → ℕ → Type 0
 SetupsStand p m log n = (r k a byte : ℕ) → ReadyAt m log n r → r ≤ k → k ≤ n → within 5 9 a ≡ false → last_setup p.setups a ≡ Some byte
-    → byte_at (chip_after log k) a ≡ num (existing (reg_at a) (bits byte))
+    → byte_at (chip_after log k).regs a ≡ num (existing (reg_at a) (bits byte))

@@ -4,7 +4,7 @@ use Rattle.frp_tool.proofs.Reading.{event_once, decl_once, clause_once, read_as,
 use Rattle.frp_tool.proofs.first_form.counter.Goals as goal
 
 pub returns-in_default : goal.returns-in_default
-returns-in_default c = λ c' fine e. c.in_default.ensures c'.event c'.source c'.priority _ (record { no_keyword = fine.event_no_keyword; above_zero = fine.above_zero; in_range = fine.priority }) e
+returns-in_default c = λ c' fine e. c.in_default.ensures c'.event c'.source c'.priority _ (record { no_keyword = fine.event_no_keyword; in_range = fine.priority }) e
 
 pub returns-in_default-decl_item : goal.returns-in_default-decl_item
 returns-in_default-decl_item c = λ c' fine e.

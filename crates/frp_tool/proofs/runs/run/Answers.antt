@@ -2,7 +2,7 @@ use Rattle.std.proofs.Common.{inl, refl, ◌∙◌}
 use Rattle.frp_tool.specs.Outsides.{outside}
 use Rattle.frp_tool.specs.RunFaults.{RunRequest}
 use Rattle.frp_tool.proofs.RunEnding.{traced_runs, refused_runs}
-use Rattle.frp_tool.proofs.Writable.{writable}
+use Rattle.hex_file.proofs.Writable.{writable}
 use Rattle.frp_tool.proofs.runs.run.Goals as goal
 
 -- The 0 is a count of write faults, of which nothing is said.

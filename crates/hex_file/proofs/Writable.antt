@@ -1,17 +1,12 @@
 -- An image that a file means is one that can be written.
-use Rattle.std.proofs.Common.{◌≡◌, ℕ, suc, ◌+◌, ◌<◌, ◌≤◌, List, [], ◌∷◌, map, Option, None, Some, IfSome, refl, arith}
+use Rattle.std.proofs.Common.{◌≡◌, ℕ, ◌+◌, ◌<◌, ◌≤◌, List, [], ◌∷◌, map, Option, None, Some, IfSome, refl, arith}
 use Rattle.std.specs.List.{Contains}
 use Rattle.std.specs.List.Sorted.{IsStrictlyIncreasing}
 use Rattle.hex_file.specs.declared.images.Word.{Word}
 use Rattle.hex_file.specs.declared.images.Image.{Image}
 use Rattle.hex_file.specs.ImageOf.{HexRecord, GivesWord, AreProgramWords, IsImageOf}
 use Rattle.hex_file.specs.Written.{RisesFrom, IsWritable}
-use Rattle.hex_file.proofs.ImageFacts.{holds_first, holds_later}
-
-rising_rest : (k : ℕ) (ks : List ℕ) → IsStrictlyIncreasing (k ∷ ks) → IsStrictlyIncreasing ks
-rising_rest k ks rising i below =
-    let next : suc i + 1 ≡ suc (i + 1) = omega arith in
-    let rises = rising (suc i) (omega arith) in rw next at rises
+use Rattle.hex_file.proofs.ImageFacts.{holds_first, holds_later, rising_rest}
 
 abbrev Fits : List Word → Type 0
 Fits ws = (w : Word) → Contains ws w → (w.address < 8192) × (w.word < 0x4000)
