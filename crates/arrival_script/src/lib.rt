@@ -17,6 +17,3 @@ mod traces;
 pub use reader::read_script;
 pub use scripts::{Arrival, Cause, Script, ScriptFault};
 pub use traces::{TraceFault, trace};
-
-#[cfg(test)]
-mod tests;

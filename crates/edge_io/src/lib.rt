@@ -27,6 +27,3 @@ pub use out_sink::OutSink;
 pub use outside::{Files, LONGEST_FILE, Sink};
 pub use sure_files::SureFiles;
 pub use sure_sink::SureSink;
-
-#[cfg(test)]
-mod tests;

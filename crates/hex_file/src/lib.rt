@@ -12,8 +12,6 @@ mod parsed;
 mod reader;
 mod records;
 mod tables;
-#[cfg(test)]
-mod tests;
 mod texts;
 mod writer;
 

@@ -15,8 +15,6 @@ mod laws;
 mod line_entries;
 mod maps;
 mod reader;
-#[cfg(test)]
-mod tests;
 mod values;
 mod writer;
 

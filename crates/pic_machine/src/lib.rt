@@ -26,6 +26,3 @@ mod turns;
 
 pub use chip::Chip;
 pub use steps::{Did, PortWrite, Stepped, Why};
-
-#[cfg(test)]
-mod tests;

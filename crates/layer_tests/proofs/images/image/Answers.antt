@@ -1,6 +1,6 @@
 use Rattle.std.proofs.Common.{refl, arith}
 use Rattle.pic_machine.proofs.RisingWords.{rises-more, below-more}
-use Rattle.pic_machine.proofs.tests.started.Goals as goal
+use Rattle.layer_tests.proofs.images.image.Goals as goal
 
 pub loop-address-preserved : goal.loop-address-preserved
 loop-address-preserved c =

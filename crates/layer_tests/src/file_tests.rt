@@ -1,4 +1,4 @@
-use crate::{
+use edge_io::{
     DiskFiles, Files, LONGEST_FILE, MemFiles, MemSink, OutSink, PutFault, ReadFault, Sink,
     SureFiles, SureSink, WriteFault,
 };

@@ -1,6 +1,6 @@
 use Rattle.std.proofs.Common.{◌<◌, All}
 use Rattle.hex_file.specs.Written.{RisesFrom}
-use Rattle.pic_machine.proofs.tests.started.Given as goal
+use Rattle.layer_tests.proofs.images.image.Given as goal
 
 abbrev pub invariant-loop-address : goal.invariant-loop-address
 invariant-loop-address l = record {

@@ -1,8 +1,8 @@
 ghost use Rattle.std.specs.Prelude.{◌≡◌, ◌<◌, ◌^◌, length, vec_len, IfOk};
 ghost use Rattle.map_file.specs.MapRules.{IsMap};
 
-use crate::{Map, MapEvent, MapFault, MapState, Range, read, write};
 use frp_tree::{List, Text, Ty};
+use map_file::{Map, MapEvent, MapFault, MapState, Range, read, write};
 use pic_isa::Source;
 use std::alloc::{AllocError, Global};
 use std::test::Fail;

@@ -1,8 +1,7 @@
 ghost use Rattle.std.specs.Prelude.{◌≤◌, length};
 
-use crate::{Chip, Did, PortWrite, Why};
-use frp_tree::List;
-use hex_file::{Image, Word};
+use crate::images::image;
+use pic_machine::{Chip, Did, PortWrite, Why};
 use pic_regs::Start;
 use std::alloc::{AllocError, Global};
 use std::test::Fail;
@@ -12,18 +11,7 @@ use std::test::Fail;
 fn started(alloc: Global, program: &[u16], w: u8) -> Result<Chip, AllocError>
     requires { length program.now ≤ 8192 }
 {
-    let mut words = List::new(alloc);
-    for (address, word) in program.iter().enumerate() {
-        words.push(Word {
-            address: address as u16,
-            word: *word % 0x4000,
-        })?;
-    }
-    let image = Image {
-        words,
-        config: None,
-        aside: List::new(alloc),
-    };
+    let image = image(alloc, program)?;
     let start = Start {
         ram: [0x00; 368],
         w,

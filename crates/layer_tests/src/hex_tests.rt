@@ -1,7 +1,8 @@
-ghost use Rattle.std.specs.Prelude.{◌<◌, length};
+ghost use Rattle.std.specs.Prelude.{◌≡◌, ◌<◌, IfOk, length};
 
-use crate::{Aside, HexFault, Word, read};
-use std::alloc::Global;
+use frp_tree::List;
+use hex_file::{Aside, HexFault, Image, Word, read, write};
+use std::alloc::{AllocError, Global};
 use std::test::Fail;
 
 // The jump to itself at 0, and a configuration word.
@@ -138,4 +139,53 @@ fn changed_at_each_byte(rt: HostRuntime) {
         assert_eq!(rt; fault(rt.alloc(), &text), Some(HexFault::BadChar(line)));
         text[place] = kept;
     }
+}
+
+fn image(alloc: Global, words: &[Word], config: Option<u16>) -> Result<Image, AllocError>
+    ensures words { IfOk result (λ image. image.words ≡ words.now) }
+    ensures config { IfOk result (λ image. image.config ≡ config) }
+{
+    Ok(Image {
+        words: List::from_vec(words.to_vec(alloc)?),
+        config,
+        aside: List::new(alloc),
+    })
+}
+
+fn at(address: u16, word: u16) -> Word
+    ensures address { result.address ≡ address }
+    ensures word { result.word ≡ word }
+{
+    Word { address, word }
+}
+
+#[test]
+fn writes_one_word_and_configuration(rt: HostRuntime) -> Result<(), Fail> {
+    let small = image(rt.alloc(), &[at(0, 0x2800)], Some(0x3F3A))?;
+    assert_eq!(rt; write(rt.alloc(), &small)?.as_slice(), SMALL.as_slice());
+    Ok(())
+}
+
+// The text was made by srec_cat from the words' bytes.
+#[test]
+fn writes_a_gap_and_a_long_run(rt: HostRuntime) -> Result<(), Fail> {
+    let words = [
+        at(6, 0x0186),
+        at(7, 0x0782),
+        at(8, 0x0064),
+        at(16, 0x1283),
+        at(17, 0x0185),
+        at(18, 0x3000),
+        at(19, 0x008B),
+        at(20, 0x138B),
+        at(21, 0x2FFF),
+        at(22, 0x3F00),
+        at(23, 0x0103),
+        at(24, 0x0009),
+    ];
+    let small = image(rt.alloc(), &words, None)?;
+    let text =
+        b":020000040000FA\n:06000C008601820764007A\n:100020008312850100308B008B13FF2F003F0301EB\n:020030000900C5\n:00000001FF\n";
+    assert_eq!(rt; write(rt.alloc(), &small)?.as_slice(), text.as_slice());
+    Ok(())
 }

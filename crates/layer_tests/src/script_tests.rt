@@ -1,11 +1,10 @@
-ghost use Rattle.std.specs.Prelude.{◌≡◌, ◌≤◌, ◌<◌, ◌+◌, ◌^◌, IfOk, length};
-ghost use Rattle.hex_file.specs.Written.{IsWritable};
+ghost use Rattle.std.specs.Prelude.{◌≡◌, ◌<◌, ◌+◌, ◌^◌, IfOk, length};
 ghost use Rattle.map_file.specs.MapRules.{IsMap};
 
-use crate::{Cause, ScriptFault, TraceFault, read_script, trace};
+use crate::images::image;
+use arrival_script::{Cause, ScriptFault, TraceFault, read_script, trace};
 use edge_io::{MemSink, SureSink};
 use frp_tree::{List, Text, Ty};
-use hex_file::{Image, Word};
 use map_file::{Map, MapEvent, MapState};
 use pic_isa::Source;
 use pic_machine::Why;
@@ -94,25 +93,6 @@ fn returns_at_each_cut_and_change(rt: HostRuntime) -> Result<(), Fail> {
     }
     assert!(rt; faults > WHOLE.len());
     Ok(())
-}
-
-// The image of words from address 0 on, of which the low 14 bits count.
-fn image(alloc: Global, program: &[u16]) -> Result<Image, AllocError>
-    requires { length program.now ≤ 8192 }
-    ensures { IfOk result (λ image. IsWritable image) }
-{
-    let mut words = List::new(alloc);
-    for (address, word) in program.iter().enumerate() {
-        words.push(Word {
-            address: address as u16,
-            word: *word % 0x4000,
-        })?;
-    }
-    Ok(Image {
-        words,
-        config: None,
-        aside: List::new(alloc),
-    })
 }
 
 fn state(alloc: Global, name: &str, ty: Ty, low: u16, high: u16) -> Result<MapState, AllocError>
