@@ -12,7 +12,7 @@ use Rattle.std.proofs.lemmas.Slice.Eq.{bytes_eq-Decides}
 use Rattle.pic_isa.specs.declared.sources.Source.{Source}
 use Rattle.pic_isa.specs.Sources.{source_name}
 use Rattle.pic_regs.specs.Arrivals.{Sources, set_of, number_of}
-use Rattle.pic_regs.proofs.ArrivalFacts.{set_of-number_of}
+use Rattle.pic_regs.proofs.ArrivalLaws.{set_of-number_of}
 use Rattle.arrival_script.specs.declared.scripts.Cause.TheVariants.{UnknownSource, SourceTwice}
 use Rattle.arrival_script.specs.Scripts.{is_source, has_twice}
 use Rattle.arrival_script.specs.Entries.{names_cause, SetOf}

@@ -10,8 +10,8 @@ use Rattle.pic_isa.specs.declared.sources.Source.TheVariants.{T0, Int, Psp, Ad, 
 use Rattle.pic_isa.specs.Sources.{source_name, source_number}
 use Rattle.pic_regs.specs.Arrivals.{Sources, set_of, number_of}
 use Rattle.pic_regs.specs.Bytes.{one_if}
-use Rattle.pic_regs.proofs.ByteFacts.{one_if-small}
-use Rattle.pic_regs.proofs.ArrivalFacts.{number_of-set_of}
+use Rattle.pic_regs.proofs.ByteLaws.{one_if-small}
+use Rattle.pic_regs.proofs.ArrivalLaws.{number_of-set_of}
 use Rattle.arrival_script.specs.Scripts.{is_source}
 
 -- Names are ASCII.

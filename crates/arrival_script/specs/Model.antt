@@ -3,8 +3,8 @@ use Rattle.std.specs.List.{flat_map, zip}
 use Rattle.std.specs.Fmt.{decimal}
 use Rattle.frp_tree.specs.Digits.{hex2}
 use Rattle.frp_tree.specs.Tree.{ProgramTree}
-use Rattle.frp_tree.specs.Needs.{is_plain}
-use Rattle.frp_tree.specs.Meaning.{State, Reaction, react, initial_state}
+use Rattle.efrp_meaning.specs.Needs.{is_plain}
+use Rattle.efrp_meaning.specs.Meaning.{State, Reaction, react, initial_state}
 use Rattle.map_file.specs.MapText.{line}
 
 -- The reactive definitions' names, in declaration order, each with its value in decimal; a bool is 0 or 1.

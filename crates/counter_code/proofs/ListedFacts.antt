@@ -4,10 +4,10 @@ use Rattle.std.specs.Prelude.{◌==◌}
 use Rattle.std.proofs.lemmas.Bool.{cases_lt, cases_eq, or_from, or_right}
 use Rattle.std.proofs.lemmas.Bool.Decides.{nat_tests}
 use Rattle.map_file.specs.declared.maps.Range.{Range}
-use Rattle.stack_bound.specs.MapNames.{is_in, is_listed}
+use Rattle.firmware_promises.specs.MapNames.{is_in, is_listed}
 use Rattle.counter_code.specs.declared.counters.Counter.{Counter}
 use Rattle.counter_code.specs.Maps.{is_written, map_of, ranges_below, with_address}
-use Rattle.counter_code.proofs.RangeFacts.{RiseBelow, rise_below}
+use Rattle.counter_code.proofs.RangeLaws.{RiseBelow, rise_below}
 
 -- An address at the bound or above lies in no range.
 none_above : (low : ℕ) (rs : List Range) (high a : ℕ) → RiseBelow low rs high → high ≤ a → is_in rs a ≡ false

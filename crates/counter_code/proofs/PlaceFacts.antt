@@ -6,25 +6,25 @@ use Rattle.pic_regs.specs.Bytes.{Byte, bits, num, one_if}
 use Rattle.pic_regs.specs.Map.{Reg}
 use Rattle.pic_regs.specs.Registers.{flag, byte_at}
 use Rattle.pic_regs.specs.Arrivals.{Sources, arrived}
-use Rattle.pic_regs.proofs.ArrivalFacts.{flag-arrived}
-use Rattle.pic_regs.proofs.ByteFacts.{num-bits}
+use Rattle.pic_regs.proofs.ArrivalLaws.{flag-arrived}
+use Rattle.pic_regs.proofs.ByteLaws.{num-bits}
 use Rattle.pic_machine.specs.Chip.{Chip}
 use Rattle.pic_machine.specs.Boundary.{Step, boundary}
 use Rattle.pic_machine.specs.Run.{program_of}
-use Rattle.pic_machine.proofs.TurnFacts.{flag-latched}
+use Rattle.pic_machine.proofs.TurnLaws.{flag-latched}
 use Rattle.pic_machine.specs.Dids.{is_taking, is_run_at, is_stop}
 use Rattle.counter_code.specs.declared.counters.Counter.{Counter}
 use Rattle.counter_code.specs.Counters.{IsCounter}
 use Rattle.counter_code.specs.Layout.{state_byte, is_peripheral, image_of, ready_address, open_address, commit_address}
-use Rattle.stack_bound.specs.Counts.{ran_at, interrupts_on, latches, clears, put_by}
-use Rattle.stack_bound.specs.Counts as counts
-use Rattle.stack_bound.specs.Urgent.{is_heard}
-use Rattle.counter_code.proofs.Story.{Place, Rests, Clears, Opens, Commits, rests, is_clearing, is_opening, is_committing, next, event_in_map, value_after, puts_at}
-use Rattle.counter_code.proofs.Spots.{Kind, NoSetup, LowSetup, HighSetup, kind_of, ready_at, ready_is}
-use Rattle.counter_code.proofs.Targets.{Aimed}
-use Rattle.counter_code.proofs.Writes.{Listed, place_listed}
-use Rattle.counter_code.proofs.PlaceSteps.{Runs, Takes}
-use Rattle.counter_code.proofs.PlaceRuns.{Stays, address_at, runs_here, takes_here, request_here, silent_here, after_run, after_taking}
+use Rattle.firmware_promises.specs.Counts.{ran_at, interrupts_on, latches, clears, put_by}
+use Rattle.firmware_promises.specs.Counts as counts
+use Rattle.firmware_promises.specs.Urgent.{is_heard}
+use Rattle.counter_code.proofs.StoryFacts.{Place, Rests, Clears, Opens, Commits, rests, is_clearing, is_opening, is_committing, next, event_in_map, value_after, puts_at}
+use Rattle.counter_code.proofs.SpotFacts.{Kind, NoSetup, LowSetup, HighSetup, kind_of, ready_at, ready_is}
+use Rattle.counter_code.proofs.TargetFacts.{Aimed}
+use Rattle.counter_code.proofs.WriteFacts.{Listed, place_listed}
+use Rattle.counter_code.proofs.PlaceStepFacts.{Runs, Takes}
+use Rattle.counter_code.proofs.PlaceRunFacts.{Stays, address_at, runs_here, takes_here, request_here, silent_here, after_run, after_taking}
 
 -- What a step is, from a place, on a chip.
 pub record Facts (c : Counter) (place : Place) (x : Chip) (step : Step) : Type 0 where

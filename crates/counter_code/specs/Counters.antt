@@ -1,5 +1,5 @@
 use Rattle.std.specs.Prelude.{◌≡◌, ◌≢◌, ℕ, ◌<◌, false, List, [], ◌∷◌, ◌++◌, Option, Some, None, IfSome, IsTrue, codes}
-use Rattle.frp_tree.specs.Causal.{IsPriority}
+use Rattle.efrp_meaning.specs.Causal.{IsPriority}
 use Rattle.frp_tree.specs.Names.{is_name, is_keyword}
 use Rattle.frp_tree.specs.declared.syntax.Ty.TheVariants.{U8}
 use Rattle.frp_tree.specs.declared.syntax.Lit.TheVariants as lit

@@ -3,7 +3,7 @@ use Rattle.pic_isa.specs.Sources.{flag_of, enable_of}
 use Rattle.map_file.specs.declared.maps.Range.{Range}
 use Rattle.map_file.specs.declared.maps.Map.{Map}
 use Rattle.frp_tree.specs.declared.syntax.Ty.TheVariants.{U8}
-use Rattle.frp_tree.specs.Bounds.{settle_bound}
+use Rattle.efrp_meaning.specs.Bounds.{settle_bound}
 use Rattle.counter_code.specs.declared.counters.Counter.{Counter}
 use Rattle.counter_code.specs.declared.counters.SetupAt.{SetupAt}
 use Rattle.counter_code.specs.Counters.{program_of}

@@ -1,5 +1,5 @@
 ghost use Rattle.std.specs.Prelude.{◌≡◌, ℕ, List};
-ghost use Rattle.stack_bound.specs.Firmware.{AlwaysKeeps, AlwaysSettles};
+ghost use Rattle.firmware_promises.specs.Firmware.{AlwaysKeeps, AlwaysSettles};
 ghost use Rattle.counter_code.specs.declared.counters.Counter.{Counter as Counters};
 ghost use Rattle.counter_code.specs.Counters.{IsCounter, Spells, program_of};
 ghost use Rattle.counter_code.specs.Layout.{image_of};

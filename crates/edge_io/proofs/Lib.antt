@@ -1,1 +1,1 @@
-pub mod HeldFiles
+pub mod HeldFileFacts

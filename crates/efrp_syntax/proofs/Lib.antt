@@ -1,7 +1,7 @@
-pub mod Cutting
-mod Examples
-pub mod MarkFronts
-pub mod NumberFronts
-pub mod Runs
-pub mod TokenFronts
-pub mod Values
+pub mod CuttingFacts
+pub mod Examples
+pub mod MarkFrontFacts
+pub mod NumberFrontFacts
+pub mod RunFacts
+pub mod TokenFrontFacts
+pub mod ValueFacts

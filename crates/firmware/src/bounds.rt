@@ -1,5 +1,5 @@
 ghost use Rattle.std.specs.Prelude.{◌≡◌};
-ghost use Rattle.frp_tree.specs.Bounds.{ram_bound, settle_bound, words_bound};
+ghost use Rattle.efrp_meaning.specs.Bounds.{ram_bound, settle_bound, words_bound};
 ghost use Rattle.counter_code.specs.Counters.{IsCounter, program_of};
 
 use counter_code::Counter;

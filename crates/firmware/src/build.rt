@@ -2,7 +2,7 @@ ghost use Rattle.std.specs.Prelude.{◌≡◌, IfOk, length};
 ghost use Rattle.hex_file.specs.Written.{IsWritable, written};
 ghost use Rattle.map_file.specs.MapRules.{IsMap};
 ghost use Rattle.map_file.specs.MapText.{map_text};
-ghost use Rattle.stack_bound.specs.Firmware.{IsFirmware};
+ghost use Rattle.firmware_promises.specs.Firmware.{IsFirmware};
 ghost use Rattle.counter_code.specs.Counters.{IsCounter, program_of};
 ghost use Rattle.counter_code.specs.Layout.{code_of, image_of};
 ghost use Rattle.counter_code.specs.Maps.{map_of};

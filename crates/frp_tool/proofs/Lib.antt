@@ -1,8 +1,8 @@
-pub mod Compiles
-pub mod Reading
-pub mod RunEnding
+pub mod CompileFacts
+pub mod ReadingFacts
+pub mod RunEndingFacts
 pub mod RunLaws
-pub mod RunSteps
-pub mod Sources
+pub mod RunStepFacts
+pub mod SourceFacts
 pub mod StatusLaws
-pub mod Summaries
+pub mod SummaryFacts

@@ -6,9 +6,9 @@ use Rattle.edge_io.specs.Files.{Held, IfTold}
 use Rattle.edge_io.specs.Sinks.{Appends}
 use Rattle.edge_io.specs.Counts.{Rose}
 use Rattle.pic_machine.specs.declared.steps.Why.{Why}
-use Rattle.hex_file.proofs.ImageFacts.{image_determined}
-use Rattle.hex_file.proofs.UniqueFacts.{no_image_of_fault}
-use Rattle.map_file.proofs.EntryRows.{one_text}
+use Rattle.hex_file.proofs.ImageLaws.{image_determined}
+use Rattle.hex_file.proofs.UniqueLaws.{no_image_of_fault}
+use Rattle.map_file.proofs.EntryRowLaws.{one_text}
 use Rattle.arrival_script.specs.declared.scripts.Script.{Script}
 use Rattle.arrival_script.specs.Scripts.{IsScriptOf}
 use Rattle.frp_tool.specs.declared.inputs.Inputs.{Inputs}
@@ -18,7 +18,7 @@ use Rattle.frp_tool.specs.Steps.{DueOrYielded}
 use Rattle.frp_tool.specs.RunFaults.{RunRequest, NotHeld, NotRead, TooLong, IsReadable, IsLong, IsNext, AreInputs, AreParts, ArePartsOf, RunFault, FileUnread, BadHex, BadMap, BadScript, fault_status, IsFirstFault}
 use Rattle.frp_tool.specs.Runs.{RunVerdict, NoRun, Stops, Ended, run_status, run_text, RunCause, RunEnds, Runs, StopsAt, GoesToEnd}
 use Rattle.frp_tool.specs.RunStatuses.{RunDone, FindsLong, FindsFault, FindsStop, RunPromises}
-use Rattle.frp_tool.proofs.RunSteps.{both_told}
+use Rattle.frp_tool.proofs.RunStepFacts.{both_told}
 
 due : (taken taken' : Option (List ℕ)) (puts puts' want : ℕ) (text : List ℕ) (status : ℕ) → RunEnds taken taken' puts puts' want text status → DueOrYielded want status
 due taken taken' puts puts' want text status (inl h) = inl h.0

@@ -1,5 +1,5 @@
 use Rattle.std.specs.Prelude.{◌≡◌, ℕ, false, List, Option, Some, None, IsTrue}
-use Rattle.frp_tree.specs.Causal.{IsPriority}
+use Rattle.efrp_meaning.specs.Causal.{IsPriority}
 use Rattle.frp_tree.specs.Names.{is_keyword, is_name}
 use Rattle.frp_tree.specs.declared.tokens.Token.{Token}
 use Rattle.frp_tree.specs.declared.tokens.Token.TheVariants.{Word, Num, Wide, Mark}

@@ -2,7 +2,7 @@ use Rattle.std.specs.Prelude.{ℕ, List, ◌++◌, codes}
 use Rattle.std.specs.Fmt.{decimal}
 use Rattle.map_file.specs.declared.maps.Map.{Map}
 use Rattle.frp_tree.specs.Tree.{ProgramTree}
-use Rattle.frp_tree.specs.Bounds.{words_bound, ram_bound, settle_bound}
+use Rattle.efrp_meaning.specs.Bounds.{words_bound, ram_bound, settle_bound}
 
 -- What is put where the words form no command.
 abbrev pub usage : List ℕ

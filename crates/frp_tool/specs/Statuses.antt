@@ -5,7 +5,7 @@ use Rattle.edge_io.specs.Sinks.{Appends}
 use Rattle.edge_io.specs.Counts.{Rose}
 use Rattle.map_file.specs.declared.maps.Map.{Map}
 use Rattle.map_file.specs.MapText.{map_text}
-use Rattle.stack_bound.specs.Firmware.{IsFirmware}
+use Rattle.firmware_promises.specs.Firmware.{IsFirmware}
 use Rattle.counter_code.specs.declared.counters.Counter.{Counter}
 use Rattle.counter_code.specs.Counters.{Spells, program_of}
 use Rattle.frp_tool.specs.Lines.{summary}

@@ -1,14 +1,4 @@
-pub mod BoundExamples
-pub mod CausalExamples
-pub mod CausalLaws
-pub mod DigitFacts
-pub mod FirstForm
-pub mod LargeBoundExamples
-pub mod Lexemes
-pub mod Longest
-pub mod MeaningExamples
-pub mod MeaningLaws
-pub mod OperatorExamples
-pub mod Programs
+pub mod DigitLaws
+pub mod LexemeLaws
+pub mod LongestLaws
 pub mod TokenLaws
-pub mod TypedValues

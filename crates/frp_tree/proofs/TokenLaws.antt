@@ -5,7 +5,7 @@ use Rattle.std.proofs.lemmas.List.{append-nil}
 use Rattle.frp_tree.specs.Tokens.{is_blank, IsLexeme, is_number_token, starts_word, starts_comment, AtLineEnd, Cuts, here, blank, comment, lexeme, IsWithin, HasTokens, IsBadByte, IsTooBig}
 use Rattle.frp_tree.specs.Fronts.{IsBlank, IsComment, Skips, IsFront}
 use Rattle.frp_tree.specs.declared.tokens.Token.{Token}
-use Rattle.frp_tree.proofs.Lexemes.{same_begin, lexeme_begins, lexeme_some, start_of, start_no_blank, same_token, same_parts}
+use Rattle.frp_tree.proofs.LexemeLaws.{same_begin, lexeme_begins, lexeme_some, start_of, start_no_blank, same_token, same_parts}
 
 -- What a cut begins with: it is over, something is skipped, or a token is taken.
 pub data Opened (after : Bool) (text : List ℕ) (ts : List Token) (last : Bool) (rest : List ℕ) : Type 0 where

@@ -1,12 +1,6 @@
-pub mod Bounds
-pub mod Causal
 pub mod Digits
 pub mod Fronts
 pub mod Literals
-pub mod Meaning
 pub mod Names
-pub mod Needs
 pub mod Tokens
 pub mod Tree
-pub mod Types
-pub mod Values

@@ -7,7 +7,7 @@ use Rattle.std.specs.List.{Contains}
 use Rattle.std.specs.Option.{option_or}
 use Rattle.hex_file.specs.Faults.{byte_of, byte_given, is_other, other_at, clash_at}
 use Rattle.hex_file.specs.ImageOf.{HexRecord, GivesByte, Agree}
-use Rattle.hex_file.proofs.ImageFacts.{held, holds_none, holds_first, holds_later}
+use Rattle.hex_file.proofs.ImageLaws.{held, holds_none, holds_first, holds_later}
 use Rattle.hex_file.proofs.TableFacts.{some_or_none}
 
 -- One record.

@@ -8,7 +8,7 @@ use Rattle.std.proofs.lemmas.Option.{same_Some}
 use Rattle.std.proofs.lemmas.List.{get_or_append_left, get_or_default, get_or-map, length-map, map-append}
 use Rattle.std.proofs.lemmas.List.Elements.{Contains-append_cases, Contains-append_left, Contains-append_right}
 use Rattle.std.proofs.Math.Seq.{get_or-append_seam}
-use Rattle.hex_file.proofs.ImageFacts.{held, holds_none, holds_first}
+use Rattle.hex_file.proofs.ImageLaws.{held, holds_none, holds_first}
 use Rattle.hex_file.specs.Tables.{IsTable, items_below}
 
 -- The items below a limit, one more.

@@ -26,7 +26,7 @@ pub fn check_byte(bytes: &[u8]) -> u8
 }
 
 /// Appends a byte in two digits.
-#[tactic(auto, using(frp_tree::proofs::DigitFacts::hex2_written))]
+#[tactic(auto, using(frp_tree::proofs::DigitLaws::hex2_written))]
 fn push_byte(text: &mut String, byte: u8) -> Result<(), AllocError>
     ensures { OnOk result (string_bytes text.new ≡ string_bytes text.old ++ hex2 byte) }
 {

@@ -22,8 +22,8 @@ use Rattle.map_file.specs.declared.entries.Section.TheVariants as section
 use Rattle.map_file.specs.MapRules.{IsMap, IsEvent, IsState, AllDiffer, RangesRise}
 use Rattle.map_file.specs.Entries.{section_after, entries_of, report_of, IsEntry, IsRange}
 use Rattle.map_file.specs.Drafts.{admits, with_entry, lowest_with, Added, events_differ, states_differ, empty_draft}
-use Rattle.map_file.proofs.FieldCuts.{all_append}
-use Rattle.map_file.proofs.EntryOrder.{run, run-append, out_of_order, event_in, state_in, output_in, range_in, events_of, states_of, outputs_of, ranges_of}
+use Rattle.map_file.proofs.FieldCutFacts.{all_append}
+use Rattle.map_file.proofs.EntryOrderFacts.{run, run-append, out_of_order, event_in, state_in, output_in, range_in, events_of, states_of, outputs_of, ranges_of}
 
 -- Names and sources that differ.
 

@@ -1,12 +1,10 @@
 pub mod DraftFacts
-pub mod EntryLines
-pub mod EntryOrder
-pub mod EntryRows
-mod Examples
-mod FaultExamples
-pub mod FieldCuts
-pub mod Lines
-pub mod Reading
-mod RuleExamples
+pub mod EntryLineFacts
+pub mod EntryOrderFacts
+pub mod EntryRowLaws
+pub mod Examples
+pub mod FieldCutFacts
+pub mod LineFacts
+pub mod ReadingFacts
 pub mod ValueFacts
-pub mod WholeLines
+pub mod WholeLineFacts

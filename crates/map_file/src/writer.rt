@@ -66,7 +66,7 @@ fn write_states(text: &mut String, states: &[MapState]) -> Result<(), AllocError
     Ok(())
 }
 
-#[tactic(auto, using(frp_tree::proofs::DigitFacts::hex3_written))]
+#[tactic(auto, using(frp_tree::proofs::DigitLaws::hex3_written))]
 fn write_state(text: &mut String, state: &MapState) -> Result<(), AllocError>
     requires { IsState state.now }
     ensures { OnOk result (string_bytes text.new ≡ string_bytes text.old ++ state_line state.now) }

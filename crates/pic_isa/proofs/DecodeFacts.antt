@@ -2,7 +2,7 @@
 use Rattle.std.proofs.Common.{◌≡◌, ℕ, ◌<◌, Option, Some, None, IfSome, IfNone, sym, ◌∙◌}
 use Rattle.pic_isa.specs.declared.instructions.Instr.{Instr}
 use Rattle.pic_isa.specs.Instructions.{FieldsFit, IsWordOf, instruction_of}
-use Rattle.pic_isa.proofs.RowFacts.{found-is_row, row-found}
+use Rattle.pic_isa.proofs.RowLaws.{found-is_row, row-found}
 
 pub its_row : (word : ℕ) (found : Option Instr) → word < 0x4000 → found ≡ instruction_of word → IfSome found (λ i. IsWordOf i word × FieldsFit i)
 its_row word (Some i) below e = found-is_row word i below (sym e)

@@ -1,6 +1,6 @@
 pub mod DecodeFacts
-pub mod NameFacts
-pub mod RowFacts
-pub mod UniqueNames
-pub mod WordExamples
-pub mod WordFacts
+pub mod Examples
+pub mod NameLaws
+pub mod RowLaws
+pub mod UniqueNameLaws
+pub mod WordLaws

@@ -1,12 +1,7 @@
-pub mod ArithmeticExamples
-pub mod BoundaryExamples
-pub mod ByteArithmetic
-pub mod ControlExamples
-pub mod HalfKnown
+pub mod ByteArithmeticFacts
+pub mod Examples
 pub mod LoadFacts
-pub mod RegisterExamples
-pub mod RisingWords
-pub mod RunExamples
-pub mod Settings
+pub mod RisingWordLaws
+pub mod SettingFacts
 pub mod StateFacts
-pub mod TurnFacts
+pub mod TurnLaws

@@ -7,7 +7,7 @@ use Rattle.hex_file.specs.declared.images.Word.{Word}
 use Rattle.hex_file.specs.Written.{RisesFrom}
 use Rattle.pic_machine.specs.Run.{word_at}
 use Rattle.pic_machine.specs.declared.memory.Cell.{Cell}
-use Rattle.pic_machine.proofs.RisingWords.{risen}
+use Rattle.pic_machine.proofs.RisingWordLaws.{risen}
 
 -- Numbers that differ aren't found equal.
 no_eqb : (a b : ℕ) → a ≢ b → (a == b) ≡ false

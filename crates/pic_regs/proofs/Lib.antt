@@ -1,10 +1,9 @@
-pub mod ArrivalFacts
-pub mod BitFacts
-pub mod ByteFacts
-pub mod MapExamples
+pub mod ArrivalLaws
+pub mod BitLaws
+pub mod ByteLaws
+pub mod Examples
 pub mod MemoryFacts
 pub mod PowerFacts
 pub mod RamFacts
-pub mod RegisterExamples
 pub mod SetFacts
-pub mod SetupRegisters
+pub mod SetupRegisterLaws

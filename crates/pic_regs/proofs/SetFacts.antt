@@ -9,9 +9,9 @@ use Rattle.pic_isa.specs.declared.sources.Source.TheVariants.{T0, Int, Psp, Ad, 
 use Rattle.pic_isa.specs.Sources.{source_number}
 use Rattle.pic_regs.specs.Bytes.{bits, zeros}
 use Rattle.pic_regs.specs.Arrivals.{Sources, set_of, number_of}
-use Rattle.pic_regs.proofs.ArrivalFacts.{number_of-set_of, set_of-number_of}
-use Rattle.pic_regs.proofs.BitFacts.{and_one, not_one}
-use Rattle.pic_regs.proofs.ByteFacts.{one_if-small}
+use Rattle.pic_regs.proofs.ArrivalLaws.{number_of-set_of, set_of-number_of}
+use Rattle.pic_regs.proofs.BitLaws.{and_one, not_one}
+use Rattle.pic_regs.proofs.ByteLaws.{one_if-small}
 
 pub bits-intcon : (n : ℕ) → bits (n % 2 * 4 + n / 2 % 2 * 2) ≡ record zeros { b2 = set_of n T0; b1 = set_of n Int }
 bits-intcon n =

@@ -1,5 +1,5 @@
 use Rattle.std.proofs.Common.{refl, arith}
-use Rattle.pic_machine.proofs.RisingWords.{rises-more, below-more}
+use Rattle.pic_machine.proofs.RisingWordLaws.{rises-more, below-more}
 use Rattle.chip_speed.proofs.image.Goals as goal
 
 pub loop-address-preserved : goal.loop-address-preserved

@@ -1,4 +1,4 @@
-use Rattle.counter_code.proofs.AlwaysKeeps.{always_keeps}
+use Rattle.counter_code.proofs.AlwaysKeepsFacts.{always_keeps}
 use Rattle.counter_code.proofs.laws.keeps_promises.Goals as goal
 
 pub returns : goal.returns

@@ -1,4 +1,4 @@
-use Rattle.counter_code.proofs.OneProgram.{text_tells}
+use Rattle.counter_code.proofs.OneProgramFacts.{text_tells}
 use Rattle.counter_code.proofs.laws.one_program.Goals as goal
 
 pub returns : goal.returns

@@ -1,4 +1,4 @@
-use Rattle.counter_code.proofs.AlwaysKeeps.{always_settles}
+use Rattle.counter_code.proofs.AlwaysKeepsFacts.{always_settles}
 use Rattle.counter_code.proofs.laws.settles.Goals as goal
 
 pub returns : goal.returns

@@ -1,5 +1,5 @@
 use Rattle.std.proofs.lemmas.Str.{IsUtf8-from_ascii}
-use Rattle.efrp_syntax.proofs.TokenFronts.{word_ascii}
+use Rattle.efrp_syntax.proofs.TokenFrontFacts.{word_ascii}
 use Rattle.efrp_syntax.proofs.fronts.name_of.Goals as goal
 
 pub unreachable-requires : goal.unreachable-requires

@@ -1,5 +1,5 @@
 use Rattle.std.proofs.Common.{refl}
-use Rattle.efrp_syntax.proofs.TokenFronts.{wide_taken, num_taken, number_big}
+use Rattle.efrp_syntax.proofs.TokenFrontFacts.{wide_taken, num_taken, number_big}
 use Rattle.efrp_syntax.proofs.fronts.numeral.Goals as goal
 
 pub returns-in-None-default : goal.returns-in-None-default

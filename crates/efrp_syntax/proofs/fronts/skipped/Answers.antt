@@ -1,5 +1,5 @@
 use Rattle.std.proofs.Common.{arith}
-use Rattle.efrp_syntax.proofs.TokenFronts.{comment_front, comment_skips}
+use Rattle.efrp_syntax.proofs.TokenFrontFacts.{comment_front, comment_skips}
 use Rattle.efrp_syntax.proofs.fronts.skipped.Goals as goal
 
 pub returns-in-47 : goal.returns-in-47

@@ -1,5 +1,5 @@
 use Rattle.std.proofs.Common.{refl, sym}
-use Rattle.efrp_syntax.proofs.TokenFronts.{mark_taken, mark_none, behind_number}
+use Rattle.efrp_syntax.proofs.TokenFrontFacts.{mark_taken, mark_none, behind_number}
 use Rattle.efrp_syntax.proofs.fronts.token.Goals as goal
 
 pub returns-then-begins_word : goal.returns-then-begins_word

@@ -1,5 +1,5 @@
 use Rattle.std.proofs.Common.{length, refl, ap, arith}
-use Rattle.efrp_syntax.proofs.TokenFronts.{word_front, word_big}
+use Rattle.efrp_syntax.proofs.TokenFrontFacts.{word_front, word_big}
 use Rattle.efrp_syntax.proofs.fronts.word.Goals as goal
 
 pub returns-then-bytes-gt-LONGEST_NAME : goal.returns-then-bytes-gt-LONGEST_NAME

@@ -1,6 +1,6 @@
 use Rattle.std.proofs.Common.{arith}
 use Rattle.std.proofs.lemmas.Result.{err_from_is_err_and}
-use Rattle.efrp_syntax.proofs.Cutting.{cut_skip, cut_front, cut_fault, cut_end, front_shorter}
+use Rattle.efrp_syntax.proofs.CuttingFacts.{cut_skip, cut_front, cut_fault, cut_end, front_shorter}
 use Rattle.efrp_syntax.proofs.lexer.cut.Goals as goal
 
 pub loop-rest-preserved-in-Some : goal.loop-rest-preserved-in-Some

@@ -1,5 +1,5 @@
 use Rattle.std.proofs.Common.{length}
-use Rattle.efrp_syntax.proofs.Cutting.{HasCut}
+use Rattle.efrp_syntax.proofs.CuttingFacts.{HasCut}
 use Rattle.efrp_syntax.proofs.lexer.cut.Given as goal
 
 abbrev pub invariant-loop-rest : goal.invariant-loop-rest

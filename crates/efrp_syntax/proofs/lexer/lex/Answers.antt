@@ -1,4 +1,4 @@
-use Rattle.efrp_syntax.proofs.Cutting.{lexed_only, lexed_none, lexed_fault}
+use Rattle.efrp_syntax.proofs.CuttingFacts.{lexed_only, lexed_none, lexed_fault}
 use Rattle.efrp_syntax.proofs.lexer.lex.Goals as goal
 
 pub returns-clause-only : goal.returns-clause-only

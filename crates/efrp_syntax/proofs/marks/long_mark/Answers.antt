@@ -1,4 +1,4 @@
-use Rattle.efrp_syntax.proofs.MarkFronts.{two_front, long_found, long_none}
+use Rattle.efrp_syntax.proofs.MarkFrontFacts.{two_front, long_found, long_none}
 use Rattle.efrp_syntax.proofs.marks.long_mark.Goals as goal
 
 pub returns-in_err-two_byte_mark-in-len2-up : goal.returns-in_err-two_byte_mark-in-len2-up

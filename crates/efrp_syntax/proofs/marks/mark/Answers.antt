@@ -1,5 +1,5 @@
 use Rattle.std.proofs.Common.{length, ap, arith}
-use Rattle.efrp_syntax.proofs.MarkFronts.{one_front, short_found, short_none, none_found}
+use Rattle.efrp_syntax.proofs.MarkFrontFacts.{one_front, short_found, short_none, none_found}
 use Rattle.efrp_syntax.proofs.marks.mark.Goals as goal
 
 pub returns-in_err-one_byte_mark-in-len1-up : goal.returns-in_err-one_byte_mark-in-len1-up

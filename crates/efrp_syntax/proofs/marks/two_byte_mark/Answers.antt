@@ -1,6 +1,6 @@
 use Rattle.std.proofs.Common.{◌∷◌, [], arith}
 use Rattle.std.proofs.lemmas.Bool.Decides.{nat_tests}
-use Rattle.frp_tree.proofs.Lexemes.{no_mark}
+use Rattle.frp_tree.proofs.LexemeLaws.{no_mark}
 use Rattle.efrp_syntax.proofs.marks.two_byte_mark.Goals as goal
 
 pub returns-in_default : goal.returns-in_default

@@ -1,4 +1,4 @@
-use Rattle.efrp_syntax.proofs.NumberFronts.{hexadecimal_front, decimal_front, digits_hex}
+use Rattle.efrp_syntax.proofs.NumberFrontFacts.{hexadecimal_front, decimal_front, digits_hex}
 use Rattle.efrp_syntax.proofs.numbers.number.Goals as goal
 
 pub value-requires-in-None-clause-digits : goal.value-requires-in-None-clause-digits

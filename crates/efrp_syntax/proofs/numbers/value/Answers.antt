@@ -1,5 +1,5 @@
 use Rattle.std.proofs.Common.{arith}
-use Rattle.efrp_syntax.proofs.Values.{value_past, value_whole}
+use Rattle.efrp_syntax.proofs.ValueFacts.{value_past, value_whole}
 use Rattle.efrp_syntax.proofs.numbers.value.Goals as goal
 
 pub returns-in_err-checked_mul : goal.returns-in_err-checked_mul

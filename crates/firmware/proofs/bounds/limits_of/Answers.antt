@@ -1,6 +1,6 @@
 use Rattle.std.proofs.Common.{◌+◌, ◌*◌, length, sym, ◌∙◌, ap}
 use Rattle.counter_code.specs.Counters.{setups_of}
-use Rattle.counter_code.proofs.BoundFacts.{words_of_counter, ram_of_counter, settle_of_counter}
+use Rattle.counter_code.proofs.BoundLaws.{words_of_counter, ram_of_counter, settle_of_counter}
 use Rattle.firmware.proofs.bounds.limits_of.Goals as goal
 
 pub returns-in-Some-clause-words : goal.returns-in-Some-clause-words

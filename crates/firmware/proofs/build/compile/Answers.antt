@@ -1,5 +1,5 @@
-use Rattle.counter_code.proofs.MapFacts.{map_rules}
-use Rattle.counter_code.proofs.FirmwareOf.{counter_is_firmware}
+use Rattle.counter_code.proofs.MapLaws.{map_rules}
+use Rattle.counter_code.proofs.FirmwareLaws.{counter_is_firmware}
 use Rattle.firmware.proofs.build.compile.Goals as goal
 
 pub returns-clause-rules : goal.returns-clause-rules

@@ -1,4 +1,4 @@
-use Rattle.counter_code.proofs.CodeFacts.{setup_below}
+use Rattle.counter_code.proofs.CodeLaws.{setup_below}
 use Rattle.firmware.proofs.code.image.Goals as goal
 
 pub whole-requires-clause-setup : goal.whole-requires-clause-setup

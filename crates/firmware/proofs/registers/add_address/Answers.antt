@@ -1,5 +1,5 @@
 use Rattle.std.proofs.Common.{◌≡◌, ◌≢◌, ◌+◌, arith}
-use Rattle.counter_code.proofs.RangeFacts.{grown, apart}
+use Rattle.counter_code.proofs.RangeLaws.{grown, apart}
 use Rattle.firmware.proofs.registers.add_address.Goals as goal
 
 pub returns-then-from : goal.returns-then-from

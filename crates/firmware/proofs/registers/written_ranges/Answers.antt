@@ -1,6 +1,6 @@
 use Rattle.std.proofs.Common.{ap, ◌∙◌}
 use Rattle.counter_code.specs.Maps.{ranges_below, with_address}
-use Rattle.counter_code.proofs.RangeFacts.{ranges_at}
+use Rattle.counter_code.proofs.RangeLaws.{ranges_at}
 use Rattle.firmware.proofs.registers.written_ranges.Goals as goal
 use Rattle.firmware.proofs.registers.written_ranges.Goals.{then-writes+in_ok-add_address, else-writes}
 

@@ -1,6 +1,6 @@
 use Rattle.std.proofs.Common.{[], refl, sym}
 use Rattle.std.proofs.lemmas.Bool.{eqb-true}
-use Rattle.frp_tool.proofs.Reading.{event_once, decl_once, clause_once, read_as, read_counter}
+use Rattle.frp_tool.proofs.ReadingFacts.{event_once, decl_once, clause_once, read_as, read_counter}
 use Rattle.frp_tool.proofs.first_form.counter.Goals as goal
 
 pub returns-in_default : goal.returns-in_default

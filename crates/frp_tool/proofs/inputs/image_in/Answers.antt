@@ -1,4 +1,4 @@
-use Rattle.frp_tool.proofs.RunSteps.{hex_refused}
+use Rattle.frp_tool.proofs.RunStepFacts.{hex_refused}
 use Rattle.frp_tool.proofs.inputs.image_in.Goals as goal
 
 pub returns-in_ok-hex_line-in-Err : goal.returns-in_ok-hex_line-in-Err

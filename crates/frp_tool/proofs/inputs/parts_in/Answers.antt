@@ -1,5 +1,5 @@
 use Rattle.std.proofs.lemmas.Result.{err_from_is_err_and}
-use Rattle.frp_tool.proofs.RunSteps.{image_halts, map_halts, script_halts}
+use Rattle.frp_tool.proofs.RunStepFacts.{image_halts, map_halts, script_halts}
 use Rattle.frp_tool.proofs.inputs.parts_in.Goals as goal
 
 pub returns-in_err-image_in : goal.returns-in_err-image_in

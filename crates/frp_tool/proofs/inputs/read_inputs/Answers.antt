@@ -1,6 +1,6 @@
 use Rattle.std.proofs.lemmas.Result.{err_from_is_err_and}
 use Rattle.frp_tool.specs.RunFaults.{RunRequest}
-use Rattle.frp_tool.proofs.RunSteps.{first_halts, second_halts, third_halts}
+use Rattle.frp_tool.proofs.RunStepFacts.{first_halts, second_halts, third_halts}
 use Rattle.frp_tool.proofs.inputs.read_inputs.Goals as goal
 
 pub returns-in_err-input-clause-gives : goal.returns-in_err-input-clause-gives

@@ -1,4 +1,4 @@
-use Rattle.frp_tool.proofs.RunSteps.{script_refused}
+use Rattle.frp_tool.proofs.RunStepFacts.{script_refused}
 use Rattle.frp_tool.proofs.inputs.script_in.Goals as goal
 
 pub returns-in_ok-script_line-in-Err-Line : goal.returns-in_ok-script_line-in-Err-Line

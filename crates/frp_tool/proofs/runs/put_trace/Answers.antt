@@ -1,5 +1,5 @@
 use Rattle.std.proofs.Common.{Err, ap}
-use Rattle.frp_tool.proofs.RunEnding.{traced_whole, traced_stop, traced_failed, traced_exhausted}
+use Rattle.frp_tool.proofs.RunEndingFacts.{traced_whole, traced_stop, traced_failed, traced_exhausted}
 use Rattle.frp_tool.proofs.runs.put_trace.Goals as goal
 
 pub returns-in-Ok : goal.returns-in-Ok

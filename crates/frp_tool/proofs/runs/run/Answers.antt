@@ -1,8 +1,8 @@
 use Rattle.std.proofs.Common.{inl, refl, ◌∙◌}
 use Rattle.frp_tool.specs.Outsides.{outside}
 use Rattle.frp_tool.specs.RunFaults.{RunRequest}
-use Rattle.frp_tool.proofs.RunEnding.{traced_runs, refused_runs}
-use Rattle.hex_file.proofs.Writable.{writable}
+use Rattle.frp_tool.proofs.RunEndingFacts.{traced_runs, refused_runs}
+use Rattle.hex_file.proofs.WritableLaws.{writable}
 use Rattle.frp_tool.proofs.runs.run.Goals as goal
 
 -- The 0 is a count of write faults, of which nothing is said.

@@ -1,5 +1,5 @@
 use Rattle.std.proofs.Common.{◌∙◌}
-use Rattle.frp_tool.proofs.RunEnding.{ends_same}
+use Rattle.frp_tool.proofs.RunEndingFacts.{ends_same}
 use Rattle.frp_tool.proofs.runs.say_stop.Goals as goal
 
 pub returns-in-Ok-clause-ends : goal.returns-in-Ok-clause-ends

@@ -4,7 +4,7 @@ use Rattle.frp_tree.specs.declared.tokens.Token.{Token}
 use Rattle.frp_tree.specs.Tokens.{HasTokens}
 use Rattle.counter_code.specs.Counters.{tokens_of}
 use Rattle.frp_tool.specs.Items.{IsWellFormed}
-use Rattle.frp_tool.proofs.Sources.{well_formed, spelled}
+use Rattle.frp_tool.proofs.SourceFacts.{well_formed, spelled}
 use Rattle.frp_tool.proofs.source.program.Goals as goal
 
 pub counter-requires : goal.counter-requires

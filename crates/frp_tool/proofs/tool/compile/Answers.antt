@@ -1,7 +1,7 @@
 use Rattle.edge_io.specs.declared.outside.TheConstants.{LONGEST_FILE}
 use Rattle.std.proofs.Common.{◌≤◌, ℕ, List, length, subst, inr, sym, ap, Err}
 use Rattle.frp_tool.specs.Answers.{Missing, ReadFailed, TooLong}
-use Rattle.frp_tool.proofs.Compiles.{compiled, missing_from, failed_from, long_from, text_from}
+use Rattle.frp_tool.proofs.CompileFacts.{compiled, missing_from, failed_from, long_from, text_from}
 use Rattle.frp_tool.proofs.tool.compile.Goals as goal
 
 pub returns-in-Ok : goal.returns-in-Ok

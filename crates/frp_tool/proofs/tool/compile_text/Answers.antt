@@ -1,5 +1,5 @@
 use Rattle.std.proofs.Common.{inl, inr, refl}
-use Rattle.frp_tool.proofs.Compiles.{keeps_refl, stores_same}
+use Rattle.frp_tool.proofs.CompileFacts.{keeps_refl, stores_same}
 use Rattle.frp_tool.proofs.tool.compile_text.Goals as goal
 
 pub returns-in-Ok-None : goal.returns-in-Ok-None

@@ -1,8 +1,8 @@
 use Rattle.std.proofs.Common.{◌∙◌, subst, sym, refl}
 use Rattle.map_file.specs.MapText.{map_text}
-use Rattle.stack_bound.specs.Firmware.{IsFirmware}
+use Rattle.firmware_promises.specs.Firmware.{IsFirmware}
 use Rattle.counter_code.specs.Counters.{program_of}
-use Rattle.frp_tool.proofs.Summaries.{summary_same}
+use Rattle.frp_tool.proofs.SummaryFacts.{summary_same}
 use Rattle.frp_tool.proofs.tool.texts_of.Goals as goal
 
 pub returns : goal.returns

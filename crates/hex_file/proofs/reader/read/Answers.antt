@@ -7,9 +7,9 @@ use Rattle.hex_file.specs.Tables.{AreGiven, word_at, word_item, aside_item, item
 use Rattle.hex_file.specs.declared.faults.HexFault.TheVariants.{NoEnd}
 use Rattle.hex_file.specs.declared.images.Image.{Image}
 use Rattle.hex_file.proofs.FrontFacts.{no_ends}
-use Rattle.hex_file.proofs.ImageFacts.{image_determined}
-use Rattle.hex_file.proofs.TableImage.{image_of_table}
-use Rattle.hex_file.proofs.UniqueFacts.{one_fault, no_image_of_fault}
+use Rattle.hex_file.proofs.ImageLaws.{image_determined}
+use Rattle.hex_file.proofs.TableImageFacts.{image_of_table}
+use Rattle.hex_file.proofs.UniqueLaws.{one_fault, no_image_of_fault}
 use Rattle.hex_file.proofs.reader.read.Goals as goal
 
 pub returns-in_err-give_lines-clause-complete : goal.returns-in_err-give_lines-clause-complete

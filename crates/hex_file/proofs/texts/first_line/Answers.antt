@@ -1,7 +1,7 @@
 use Rattle.std.proofs.Common.{◌∷◌, ◌+◌, drop, length, sym, ◌∙◌, ap, arith}
 use Rattle.std.proofs.lemmas.List.{drop_all, take_rest}
 use Rattle.std.specs.Str.Lines.{lines}
-use Rattle.hex_file.proofs.LineCuts.{first_of_lines, last_of_lines}
+use Rattle.hex_file.proofs.LineCutFacts.{first_of_lines, last_of_lines}
 use Rattle.hex_file.proofs.texts.first_line.Goals as goal
 
 pub returns-in-Some-clause-lines : goal.returns-in-Some-clause-lines

@@ -1,4 +1,4 @@
-use Rattle.map_file.proofs.EntryRows.{one_text}
+use Rattle.map_file.proofs.EntryRowLaws.{one_text}
 use Rattle.map_file.proofs.laws.one_map.Goals as goal
 
 pub returns : goal.returns

@@ -1,6 +1,6 @@
 use Rattle.std.proofs.Common.{refl}
 use Rattle.std.proofs.lemmas.Bool.{false≢true}
-use Rattle.map_file.proofs.Reading.{read_more, no_entry, not_added, no_line_there, read_whole, faulty_no_map, read_alone}
+use Rattle.map_file.proofs.ReadingFacts.{read_more, no_entry, not_added, no_line_there, read_whole, faulty_no_map, read_alone}
 use Rattle.map_file.proofs.reader.read.Goals as goal
 
 pub returns-in_default-2-clause-fault : goal.returns-in_default-2-clause-fault

@@ -1,5 +1,5 @@
 use Rattle.std.proofs.Common.{length}
-use Rattle.map_file.proofs.Reading.{HasRead}
+use Rattle.map_file.proofs.ReadingFacts.{HasRead}
 use Rattle.map_file.proofs.reader.read.Given as goal
 
 abbrev pub invariant-loop-line : goal.invariant-loop-line

@@ -1,5 +1,5 @@
 use Rattle.std.proofs.Common.{sym, ◌∙◌}
-use Rattle.map_file.proofs.WholeLines.{first_line, no_line_left}
+use Rattle.map_file.proofs.WholeLineFacts.{first_line, no_line_left}
 use Rattle.map_file.proofs.reader.split_line.Goals as goal
 
 pub returns-in_err-end : goal.returns-in_err-end

@@ -1,5 +1,5 @@
 use Rattle.map_file.specs.MapText.{event_line}
-use Rattle.map_file.proofs.Lines.{one_more_line}
+use Rattle.map_file.proofs.LineFacts.{one_more_line}
 use Rattle.map_file.proofs.writer.write_events.Goals as goal
 
 pub loop-event-preserved : goal.loop-event-preserved

@@ -1,4 +1,4 @@
-use Rattle.map_file.proofs.Lines.{range_first, range_last}
+use Rattle.map_file.proofs.LineFacts.{range_first, range_last}
 use Rattle.map_file.proofs.writer.write_ranges.Goals as goal
 
 pub write_range-requires-clause-first : goal.write_range-requires-clause-first

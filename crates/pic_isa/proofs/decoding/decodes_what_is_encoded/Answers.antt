@@ -1,4 +1,4 @@
-use Rattle.pic_isa.proofs.RowFacts.{written-found}
+use Rattle.pic_isa.proofs.RowLaws.{written-found}
 use Rattle.pic_isa.proofs.decoding.decodes_what_is_encoded.Goals as goal
 
 pub returns : goal.returns

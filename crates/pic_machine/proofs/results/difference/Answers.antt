@@ -1,6 +1,6 @@
 use Rattle.std.proofs.Common.{◌≡◌, ◌+◌, ◌-◌, ap, ◌∙◌, arith}
 use Rattle.pic_regs.specs.Bytes.{bits}
-use Rattle.pic_machine.proofs.ByteArithmetic.{difference-bits}
+use Rattle.pic_machine.proofs.ByteArithmeticFacts.{difference-bits}
 use Rattle.pic_machine.proofs.results.difference.Goals as goal
 
 pub returns : goal.returns

@@ -1,4 +1,4 @@
-use Rattle.pic_machine.proofs.ByteArithmetic.{low-bits}
+use Rattle.pic_machine.proofs.ByteArithmeticFacts.{low-bits}
 use Rattle.pic_machine.proofs.results.low_byte.Goals as goal
 
 pub returns : goal.returns

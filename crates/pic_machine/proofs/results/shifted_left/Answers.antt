@@ -1,5 +1,5 @@
 use Rattle.std.proofs.Common.{◌∙◌}
-use Rattle.pic_machine.proofs.ByteArithmetic.{left-bits, one_if-bool}
+use Rattle.pic_machine.proofs.ByteArithmeticFacts.{left-bits, one_if-bool}
 use Rattle.pic_machine.proofs.results.shifted_left.Goals as goal
 
 pub returns : goal.returns

@@ -1,5 +1,5 @@
 use Rattle.std.proofs.Common.{◌∙◌, arith}
-use Rattle.pic_machine.proofs.ByteArithmetic.{one_if-bool, right-bits}
+use Rattle.pic_machine.proofs.ByteArithmeticFacts.{one_if-bool, right-bits}
 use Rattle.pic_machine.proofs.results.shifted_right.Goals as goal
 
 pub returns : goal.returns

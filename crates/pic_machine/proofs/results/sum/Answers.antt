@@ -1,7 +1,7 @@
 use Rattle.std.proofs.Common.{◌≡◌, ◌+◌, ◌%◌, nat_lt, ap, ◌∙◌, arith}
 use Rattle.pic_regs.specs.Bytes.{bits, is_zero}
 use Rattle.pic_machine.specs.Results.{All}
-use Rattle.pic_machine.proofs.ByteArithmetic.{sum-bits}
+use Rattle.pic_machine.proofs.ByteArithmeticFacts.{sum-bits}
 use Rattle.pic_machine.proofs.results.sum.Goals as goal
 
 pub returns : goal.returns

@@ -1,4 +1,4 @@
-use Rattle.pic_regs.proofs.BitFacts.{bit-shifted}
+use Rattle.pic_regs.proofs.BitLaws.{bit-shifted}
 use Rattle.pic_regs.proofs.bytes.bit_is_set.Goals as goal
 
 pub returns : goal.returns

@@ -1,4 +1,4 @@
-use Rattle.pic_regs.proofs.BitFacts.{bits-and}
+use Rattle.pic_regs.proofs.BitLaws.{bits-and}
 use Rattle.pic_regs.proofs.bytes.both.Goals as goal
 
 pub returns : goal.returns

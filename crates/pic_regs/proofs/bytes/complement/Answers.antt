@@ -1,5 +1,5 @@
 use Rattle.std.proofs.Common.{arith}
-use Rattle.pic_regs.proofs.BitFacts.{bits-not}
+use Rattle.pic_regs.proofs.BitLaws.{bits-not}
 use Rattle.pic_regs.proofs.bytes.complement.Goals as goal
 
 pub returns : goal.returns

@@ -1,4 +1,4 @@
-use Rattle.pic_regs.proofs.BitFacts.{bits-xor}
+use Rattle.pic_regs.proofs.BitLaws.{bits-xor}
 use Rattle.pic_regs.proofs.bytes.differing.Goals as goal
 
 pub returns : goal.returns

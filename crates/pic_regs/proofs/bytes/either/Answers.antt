@@ -1,4 +1,4 @@
-use Rattle.pic_regs.proofs.BitFacts.{bits-or}
+use Rattle.pic_regs.proofs.BitLaws.{bits-or}
 use Rattle.pic_regs.proofs.bytes.either.Goals as goal
 
 pub returns : goal.returns

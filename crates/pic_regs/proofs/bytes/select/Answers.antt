@@ -1,5 +1,5 @@
 use Rattle.std.proofs.Common.{arith}
-use Rattle.pic_regs.proofs.BitFacts.{bits-pick}
+use Rattle.pic_regs.proofs.BitLaws.{bits-pick}
 use Rattle.pic_regs.proofs.bytes.select.Goals as goal
 
 pub returns : goal.returns

@@ -1,6 +1,6 @@
 use Rattle.std.proofs.Common.{ap, sym, ◌∙◌}
 use Rattle.pic_regs.specs.Bytes.{bits, with_bit}
-use Rattle.pic_regs.proofs.BitFacts.{pick-set, pick-clear}
+use Rattle.pic_regs.proofs.BitLaws.{pick-set, pick-clear}
 use Rattle.pic_regs.proofs.bytes.set_bit.Goals as goal
 
 pub returns-then-value : goal.returns-then-value

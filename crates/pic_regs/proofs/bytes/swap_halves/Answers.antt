@@ -1,5 +1,5 @@
 use Rattle.std.proofs.Common.{arith}
-use Rattle.pic_regs.proofs.BitFacts.{bits-swapped}
+use Rattle.pic_regs.proofs.BitLaws.{bits-swapped}
 use Rattle.pic_regs.proofs.bytes.swap_halves.Goals as goal
 
 pub returns : goal.returns

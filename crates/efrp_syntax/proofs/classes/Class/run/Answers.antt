@@ -1,6 +1,6 @@
 use Rattle.std.proofs.lemmas.List.Sums.{prefix_len-le-length}
 use Rattle.efrp_syntax.specs.Pieces.{is_in}
-use Rattle.efrp_syntax.proofs.Runs.{run_front}
+use Rattle.efrp_syntax.proofs.RunFacts.{run_front}
 use Rattle.efrp_syntax.proofs.classes.Class.run.Goals as goal
 
 pub split_at-requires : goal.split_at-requires

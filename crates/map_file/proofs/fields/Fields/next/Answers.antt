@@ -1,6 +1,6 @@
 use Rattle.std.proofs.Common.{◌∙◌, ap}
 use Rattle.map_file.specs.FieldWords.{fields_in_rest}
-use Rattle.map_file.proofs.FieldCuts.{first_field, one_field}
+use Rattle.map_file.proofs.FieldCutFacts.{first_field, one_field}
 use Rattle.map_file.proofs.fields.Fields.next.Goals as goal
 
 pub returns-in-Some : goal.returns-in-Some

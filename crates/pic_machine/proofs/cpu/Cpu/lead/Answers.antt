@@ -1,6 +1,6 @@
 use Rattle.std.proofs.Common.{◌+◌, ◌*◌, ◌∙◌, arith}
 use Rattle.pic_machine.specs.State.{cpu_of}
-use Rattle.pic_machine.proofs.ByteArithmetic.{itself}
+use Rattle.pic_machine.proofs.ByteArithmeticFacts.{itself}
 use Rattle.pic_machine.proofs.cpu.Cpu.lead.Goals as goal
 
 pub returns : goal.returns

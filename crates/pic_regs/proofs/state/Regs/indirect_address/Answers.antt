@@ -1,5 +1,5 @@
 use Rattle.std.proofs.Common.{◌/◌, arith}
-use Rattle.pic_regs.proofs.ByteFacts.{num-bits, one_if-odd}
+use Rattle.pic_regs.proofs.ByteLaws.{num-bits, one_if-odd}
 use Rattle.pic_regs.proofs.state.Regs.indirect_address.Goals as goal
 
 pub returns-clause-address : goal.returns-clause-address

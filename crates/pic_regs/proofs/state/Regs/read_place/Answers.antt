@@ -3,7 +3,7 @@ use Rattle.pic_regs.specs.Map.{existing}
 use Rattle.pic_regs.specs.Registers.{read}
 use Rattle.pic_regs.specs.Places.{reg_of}
 use Rattle.pic_regs.specs.State.{registers_of}
-use Rattle.pic_regs.proofs.BitFacts.{num_of}
+use Rattle.pic_regs.proofs.BitLaws.{num_of}
 use Rattle.pic_regs.proofs.state.Regs.read_place.Goals as goal
 
 pub returns-clause-number : goal.returns-clause-number

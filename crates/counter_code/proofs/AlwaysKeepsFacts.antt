@@ -1,0 +1,42 @@
+-- The image of a counter keeps what firmware promises: from every start, under every list of arrivals, at every moment.
+use Rattle.std.specs.Prelude.{Bool, true, false, not, ◌&&◌}
+use Rattle.std.proofs.Common.{◌≡◌, refl, arith}
+use Rattle.pic_regs.specs.Registers.{flag}
+use Rattle.pic_machine.specs.Run.{Log, arrivals_of}
+use Rattle.counter_code.specs.declared.counters.Counter.{Counter}
+use Rattle.counter_code.specs.Counters.{IsCounter, program_of}
+use Rattle.counter_code.specs.Layout.{image_of}
+use Rattle.counter_code.specs.Maps.{map_of}
+use Rattle.firmware_promises.specs.Firmware.{AlwaysKeeps, AlwaysSettles}
+use Rattle.counter_code.proofs.BootRunFacts.{chip_at, log_of}
+use Rattle.counter_code.proofs.ToldFacts.{story}
+use Rattle.counter_code.proofs.FollowsFacts.{story-follows}
+use Rattle.counter_code.proofs.UrgentFacts.{story-urgent}
+use Rattle.counter_code.proofs.OnceFacts.{story-once}
+use Rattle.counter_code.proofs.SettledFacts.{story-settled}
+use Rattle.counter_code.proofs.SoundFacts.{goes_on, writes_listed, shallow, setups_stand, flags_stay}
+
+pub always_keeps : (c : Counter) → IsCounter c → AlwaysKeeps (program_of c) (image_of c) (map_of c)
+always_keeps c fine start list n is_start =
+    let log : Log = log_of c start list in
+    let told = story c fine start list in
+    record {
+      follows = story-follows c log fine told n;
+      setups = setups_stand c fine start list n;
+      flags = flags_stay c fine start list n;
+      once = story-once c log fine told n;
+      urgent = story-urgent c log fine told n;
+      goes_on = λ k h. goes_on c fine start list k;
+      listed = λ k h. writes_listed c fine start list k;
+      depth = λ k h. shallow c fine start list k;
+    }
+
+-- What doesn't arrive isn't latched.
+unlatched : (arrives is_set : Bool) → (arrives ≡ true → ⊥) → (arrives && not is_set) ≡ false
+unlatched true is_set never = absurd (never refl)
+unlatched false is_set never = refl
+
+pub always_settles : (c : Counter) → IsCounter c → AlwaysSettles (program_of c) (image_of c) (map_of c)
+always_settles c fine start list n is_start quiet =
+    story-settled c (log_of c start list) fine (story c fine start list) n quiet.0 (λ j late below.
+    unlatched (arrivals_of list j c.source) (flag c.source (chip_at c start list j).regs) (λ e. let early = quiet.1 j c.source below e in omega (arith, early, late)))

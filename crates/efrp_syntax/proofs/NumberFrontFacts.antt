@@ -1,0 +1,42 @@
+use Rattle.std.proofs.Common.{◌≡◌, ◌≢◌, ℕ, Bool, true, false, List, [], ◌∷◌, ◌++◌, Option, inl, inr, refl, sym, ap, ◌∙◌}
+use Rattle.std.specs.List.{list_all}
+use Rattle.std.proofs.lemmas.Bool.{false≢true, and_parts}
+use Rattle.frp_tree.specs.Names.{is_digit}
+use Rattle.frp_tree.specs.Tokens.{is_hex_digit, value_after}
+use Rattle.frp_tree.specs.Fronts.{begins}
+use Rattle.frp_tree.proofs.LexemeLaws.{weaker, digit_hex}
+use Rattle.frp_tree.proofs.LongestLaws.{decimal_longest, hexadecimal_longest}
+use Rattle.efrp_syntax.specs.Pieces.{IsRun, IsNumberFront, fitting}
+
+-- A run of what begins with such an element isn't empty.
+pub run_some : (p : ℕ → Bool) (text front rest : List ℕ) → begins p text ≡ true → IsRun p text front rest → front ≢ []
+run_some p text front rest b r e = false≢true (sym r.ends ∙ ap (begins p) (sym (r.spelled ∙ ap (λ xs. xs ++ rest) e)) ∙ b)
+
+pub hexadecimal_front : (text behind front rest : List ℕ) (value : Option ℕ) → text ≡ 48 ∷ 120 ∷ behind → begins is_hex_digit behind ≡ true → IsRun is_hex_digit behind front rest → value ≡ fitting (value_after 16 0 front) → IsNumberFront text value rest
+hexadecimal_front text behind front rest value e b r t = record {
+  digits = 48 ∷ 120 ∷ front;
+  n = value_after 16 0 front;
+  spelled = e ∙ ap (λ xs. 48 ∷ 120 ∷ xs) r.spelled;
+  number = inr (record { digits = front; some = run_some is_hex_digit behind front rest b r; spelled = refl; hexadecimal = r.all; value = refl });
+  longest = hexadecimal_longest front rest r.ends;
+  told = t;
+}
+
+-- Hexadecimal digits begin with one.
+begins_all : (p : ℕ → Bool) (ds other : List ℕ) → ds ≢ [] → list_all p ds ≡ true → begins p (ds ++ other) ≡ true
+begins_all p [] other s h = absurd (s refl)
+begins_all p (d ∷ ds) other s h = (and_parts (p d) (list_all p ds) h).0
+
+pub decimal_front : (text front rest : List ℕ) (value : Option ℕ) → begins is_digit text ≡ true → ((digits : List ℕ) → text ≡ 48 ∷ 120 ∷ digits → begins is_hex_digit digits ≡ false) → IsRun is_digit text front rest → value ≡ fitting (value_after 10 0 front) → IsNumberFront text value rest
+decimal_front text front rest value b none r t = record {
+  digits = front;
+  n = value_after 10 0 front;
+  spelled = r.spelled;
+  number = inl (record { some = run_some is_digit text front rest b r; digits = r.all; value = refl });
+  longest = decimal_longest front rest r.ends (λ ds other some all e. false≢true (sym (none (ds ++ other) (r.spelled ∙ e)) ∙ begins_all is_hex_digit ds other some all));
+  told = t;
+}
+
+-- Decimal digits are hexadecimal ones.
+pub digits_hex : (ds : List ℕ) → list_all is_digit ds ≡ true → list_all is_hex_digit ds ≡ true
+digits_hex ds h = weaker is_digit is_hex_digit ds digit_hex h

@@ -1,0 +1,6 @@
+pub mod CountLaws
+pub mod FallLaws
+pub mod HeardLaws
+pub mod ListLaws
+pub mod OnceLaws
+pub mod ReadyLaws

@@ -1,0 +1,35 @@
+-- The ready boundary by what the first n steps show.
+use Rattle.std.specs.Prelude.{ℕ, ◌<◌, ◌≤◌, Bool, true, false, ◌⊎◌}
+use Rattle.std.proofs.Common.{◌≡◌, sym, ◌∙◌, inl, inr, arith}
+use Rattle.pic_machine.specs.Run.{Log}
+use Rattle.map_file.specs.declared.maps.Map.{Map}
+use Rattle.firmware_promises.specs.Counts.{chip_after, takes}
+use Rattle.firmware_promises.specs.Ready.{ShowsReady, ReadyAt, BeforeReady}
+
+pub before_or_from : (k r : ℕ) → (k < r) ⊎ (r ≤ k)
+before_or_from k r = grind arith
+
+module _ (m : Map) (log : Log) (n r : ℕ) where
+  -- A ready boundary isn't before one that is the first to be shown.
+  pub not_ready_before : ((k : ℕ) → k < r → ShowsReady m log n k → ⊥) → (s : ℕ) → ReadyAt m log n s → r ≤ s
+  not_ready_before unready s is_it = by (before_or_from s r)
+    where
+      by : (s < r) ⊎ (r ≤ s) → r ≤ s
+      by (inl h) = absurd (unready s h is_it.shown)
+      by (inr h) = h
+
+  -- A step before the ready boundary comes before each moment that is shown to be ready.
+  pub before_shown : (k : ℕ) → ShowsReady m log n r → BeforeReady m log n k → k < r
+  before_shown k shown before = by (before_or_from k r)
+    where
+      by : (k < r) ⊎ (r ≤ k) → k < r
+      by (inl h) = h
+      by (inr h) = absurd (before r h shown)
+
+not_both : (b : Bool) → b ≡ false → b ≡ true → ⊥
+not_both b is_false is_true = let e = sym is_false ∙ is_true in cc
+
+-- Where the program counter isn't at the ready address and no interrupt is taken, ready isn't shown.
+pub unready : (m : Map) (log : Log) (n k : ℕ) → ((chip_after log k).pc ≡ m.ready → ⊥) → takes (log k) ≡ false → ShowsReady m log n k → ⊥
+unready m log n k elsewhere runs (inl s) = elsewhere s.1
+unready m log n k elsewhere runs (inr s) = not_both (takes (log k)) runs s.1

@@ -1,0 +1,5 @@
+//! Tests of the crates that read a source text, by their public calls.
+#![tactic(auto)]
+
+#[cfg(test)]
+mod token_tests;

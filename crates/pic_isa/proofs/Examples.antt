@@ -1,0 +1,2 @@
+-- Instruction words, computed.
+pub mod Words

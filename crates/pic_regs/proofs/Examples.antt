@@ -1,0 +1,3 @@
+-- The register map and registers, computed.
+pub mod Map
+pub mod Registers

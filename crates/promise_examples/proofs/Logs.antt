@@ -1,0 +1,26 @@
+-- Logs made by hand: one that keeps each promise, and for each clause one that breaks it.
+pub mod Booted
+pub mod BootsWrongly
+pub mod BrokenOnce
+pub mod BrokenSettled
+pub mod BrokenUrgent
+pub mod BrokenValues
+pub mod CommitsAlone
+pub mod Disturbed
+pub mod Early
+pub mod Edges
+pub mod FlagsSides
+pub mod GoodFollows
+pub mod GoodLog
+pub mod GoodOnce
+pub mod KeepsSides
+pub mod ListsSides
+pub mod NamesSides
+pub mod NeverCommits
+pub mod NeverReady
+pub mod QuietSides
+pub mod ReportsSides
+pub mod SetupsSides
+pub mod Stories
+pub mod TwoEvents
+pub mod UrgentEdges

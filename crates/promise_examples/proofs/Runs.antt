@@ -1,0 +1,9 @@
+-- The code of counters, run on the defined chip and counted as the promises count.
+pub mod Counting
+pub mod Merged
+pub mod Moments
+pub mod Promises
+pub mod Puts
+pub mod Serial
+pub mod Sources
+pub mod Ticks
