@@ -3,9 +3,8 @@ use Rattle.std.specs.Prelude.{ℕ, List, [], ◌∷◌, replicate}
 use Rattle.pic_regs.specs.Bytes.{num, bits}
 use Rattle.pic_regs.specs.Map.{reg_at}
 use Rattle.pic_regs.specs.Registers.{read, write}
-use Rattle.pic_regs.specs.Arrivals.{no_source}
 use Rattle.pic_machine.specs.Chip.{Chip}
-use Rattle.pic_machine.specs.Boundary.{Step, boundary}
+use Rattle.pic_machine.specs.Boundary.{Step, no_outer, boundary}
 use Rattle.pic_machine.specs.Run.{power_on}
 
 -- Power-on with RAM, W and the flags of STATUS at 0.
@@ -31,7 +30,7 @@ with_status byte c = record c { regs = record c.regs { status = bits byte } }
 
 -- A word run at the program counter, with nothing arriving.
 abbrev pub step_of : ℕ → Chip → Step
-step_of word c = boundary (λ address. word) no_source c
+step_of word c = boundary (λ address. word) no_outer c
 
 abbrev pub run_word : ℕ → Chip → Chip
 run_word word c = (step_of word c).after

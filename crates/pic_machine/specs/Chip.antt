@@ -1,10 +1,12 @@
+-- The chip, and what moves its program counter, its return stack and GIE.
 use Rattle.std.specs.Prelude.{ℕ, ◌+◌, ◌-◌, ◌*◌, ◌%◌, min, Bool, if◌then◌else◌}
 use Rattle.pic_regs.specs.Bytes.{Byte, num, bits, one_if, updated}
 use Rattle.pic_regs.specs.Map.{Reg, Indf, Pcl, Pclath, reg_at, reg_in}
 use Rattle.pic_regs.specs.Registers.{Registers, read}
 
--- The chip: W, the program counter, the registers, and the return stack with the place that the next push fills and
--- the counted depth. Program memory never changes and stands apart.
+-- The chip: W, the program counter, the registers, the return stack with the place that the next push fills and the
+-- counted depth, and whether an interrupt is due: one that was requested waits one instruction for its taking. Program
+-- memory never changes and stands apart.
 pub record Chip : Type 0 where
   pub w : Byte
   pub pc : ℕ
@@ -12,6 +14,7 @@ pub record Chip : Type 0 where
   pub stack : ℕ → ℕ
   pub top : ℕ
   pub depth : ℕ
+  pub due : Bool
 
 -- The chip with the program counter at the next address.
 abbrev pub advanced : Chip → Chip

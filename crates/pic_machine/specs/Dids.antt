@@ -1,3 +1,4 @@
+-- What a step did, told by tests.
 use Rattle.std.specs.Prelude.{ℕ, Bool, true, false, ◌==◌}
 use Rattle.pic_machine.specs.declared.steps.Did.{Did}
 use Rattle.pic_machine.specs.declared.steps.Did.TheVariants.{Took, Ran, Stopped}

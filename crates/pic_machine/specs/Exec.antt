@@ -1,3 +1,4 @@
+-- The 35 instructions: what each of them leaves (data sheet, section "Instruction Set Summary").
 use Rattle.std.specs.Prelude.{ℕ, not, true, false, Option, Some, None}
 use Rattle.pic_isa.specs.declared.instructions.Dest.{Dest}
 use Rattle.pic_isa.specs.declared.instructions.Dest.TheVariants.{W, F}

@@ -2,6 +2,7 @@ pub mod Boundary
 pub mod Chip
 pub mod Dids
 pub mod Exec
+pub mod Laws
 pub mod Memory
 pub mod Results
 pub mod Run

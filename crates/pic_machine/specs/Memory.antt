@@ -1,3 +1,4 @@
+-- Program memory as the code has it.
 use Rattle.std.specs.Prelude.{ℕ, map, get_or}
 use Rattle.pic_machine.specs.declared.memory.Cell.{Cell}
 use Rattle.pic_machine.specs.declared.memory.Memory.{Memory}

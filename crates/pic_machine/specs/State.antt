@@ -1,3 +1,4 @@
+-- The definitions' chip, results and turns that values of the code stand for.
 use Rattle.std.specs.Prelude.{ℕ, Option, Some, None, get_or}
 use Rattle.pic_regs.specs.Bytes.{bits}
 use Rattle.pic_regs.specs.State.{registers_of}
@@ -15,7 +16,7 @@ use Rattle.pic_machine.specs.Results.{Flags, Same, Zero, Carry, All, Outcome, Do
 
 -- The chip that the code's is. Past its eight places the return stack is 0.
 abbrev pub cpu_of : Cpu → Chip
-cpu_of c = record { w = bits c.w; pc = c.pc; regs = registers_of c.regs; stack = λ place. get_or c.stack place 0; top = c.top; depth = c.depth }
+cpu_of c = record { w = bits c.w; pc = c.pc; regs = registers_of c.regs; stack = λ place. get_or c.stack place 0; top = c.top; depth = c.depth; due = c.due }
 
 -- What an instruction leaves, by the effect that the code reports and the chip that it leaves.
 abbrev pub done_of : Option Effect → Chip → Option Done

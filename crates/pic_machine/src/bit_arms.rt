@@ -1,3 +1,4 @@
+// Instructions that clear, count, set or test.
 ghost use Rattle.std.specs.Prelude.{◌≡◌, ◌<◌, Some};
 ghost use Rattle.pic_regs.specs.Bytes.{bits};
 ghost use Rattle.pic_regs.specs.Places.{IsPlace, reg_of};

@@ -1,10 +1,11 @@
+// The chip with its program memory: the public calls.
 ghost use Rattle.std.specs.Prelude.{◌≡◌, ◌<◌};
 ghost use Rattle.hex_file.specs.Written.{IsWritable};
 ghost use Rattle.pic_regs.specs.Arrivals.{latched, merged, number_of, set_of};
 ghost use Rattle.pic_regs.specs.Bytes.{bits};
 ghost use Rattle.pic_regs.specs.Registers.{with_pins};
 ghost use Rattle.pic_regs.specs.State.{registers_of};
-ghost use Rattle.pic_machine.specs.Boundary.{boundary, stepped, with_arrivals};
+ghost use Rattle.pic_machine.specs.Boundary.{boundary, no_pins, stepped, with_arrivals};
 ghost use Rattle.pic_machine.specs.Run.{power_on, program_of};
 ghost use Rattle.pic_machine.specs.State.{chip_of, cpu_of, memory_of};
 
@@ -54,17 +55,21 @@ impl Chip {
         }
     }
 
-    /// One step: the flag of each source of a set, below 2,048, is set, enabled or not; and then a requested
-    /// interrupt is taken, or else the word at the program counter runs. A word that is no instruction and
-    /// SLEEP stop: then only flags changed. Takes no memory.
-    pub fn step(&mut self, arrivals: u16) -> Stepped
+    /// One step: the flag of each source of a set, below 2,048, is set, enabled or not. Then an interrupt that is
+    /// due is taken; one that is requested is taken or, where it is late, waits until the instruction at the
+    /// program counter has run, and is then due. Otherwise the word at the program counter runs. A word that is
+    /// no instruction and SLEEP stop: then only flags changed. A late interrupt doesn't wait for such a word.
+    /// Takes no memory.
+    pub fn step(&mut self, arrivals: u16, late: bool) -> Stepped
         requires { arrivals < 2048 }
-        ensures report { result ≡ stepped (boundary (memory_of self.old) (set_of arrivals) (chip_of self.old)) }
-        ensures chip { chip_of self.new ≡ (boundary (memory_of self.old) (set_of arrivals) (chip_of self.old)).after }
+        ensures report { result
+            ≡ stepped (boundary (memory_of self.old) (record { arrivals = set_of arrivals; pins = no_pins; late = late }) (chip_of self.old)) }
+        ensures chip { chip_of self.new
+            ≡ (boundary (memory_of self.old) (record { arrivals = set_of arrivals; pins = no_pins; late = late }) (chip_of self.old)).after }
         ensures memory { memory_of self.new ≡ memory_of self.old }
     {
         let arrived = self.cpu.take_in(arrivals);
-        let turned = self.cpu.turn(&self.memory);
+        let turned = self.cpu.turn(&self.memory, late);
         Stepped {
             latched: arrived.latched,
             merged: arrived.merged,
@@ -72,6 +77,13 @@ impl Chip {
             wrote: turned.wrote,
             port: turned.port,
         }
+    }
+
+    /// An interrupt is due: it was requested, and an instruction has run since.
+    pub fn due(&self) -> bool
+        ensures { result ≡ (chip_of self.now).due }
+    {
+        self.cpu.due()
     }
 
     /// The address of the next instruction, below 8,192.

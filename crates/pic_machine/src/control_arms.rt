@@ -1,3 +1,4 @@
+// Instructions that move control, and those that do nothing else.
 ghost use Rattle.std.specs.Prelude.{◌≡◌, ◌<◌, Some};
 ghost use Rattle.pic_machine.specs.Exec.{exec};
 ghost use Rattle.pic_machine.specs.State.{cpu_of, done_of};

@@ -1,3 +1,4 @@
+// Where a result goes: W, a register, STATUS, a port or the program counter.
 ghost use Rattle.std.specs.Prelude.{◌≡◌, Some};
 ghost use Rattle.pic_regs.specs.Bytes.{bits};
 ghost use Rattle.pic_regs.specs.Map.{Status};

@@ -1,3 +1,4 @@
+// What an instruction did beside the chip that it leaves.
 use crate::steps::PortWrite;
 
 // What an instruction did beside the chip that it leaves: the lowest address of the register that it wrote as

@@ -1,3 +1,4 @@
+// An instruction at the program counter: each goes to its own function.
 ghost use Rattle.std.specs.Prelude.{◌≡◌, None};
 ghost use Rattle.pic_isa.specs.Instructions.{FieldsFit};
 ghost use Rattle.pic_machine.specs.Exec.{exec};

@@ -14,6 +14,7 @@ mod cpu;
 mod destination;
 mod effects;
 mod exec;
+mod laws;
 mod memory;
 mod operands;
 mod outcomes;
@@ -25,4 +26,5 @@ mod steps;
 mod turns;
 
 pub use chip::Chip;
+pub use laws::{stops_exactly, takes_in_time, takes_where_it_may};
 pub use steps::{Did, PortWrite, Stepped, Why};

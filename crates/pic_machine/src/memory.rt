@@ -1,3 +1,4 @@
+// Program memory, decoded once.
 ghost use Rattle.std.specs.Prelude.{◌≡◌, ◌<◌};
 ghost use Rattle.pic_isa.specs.Instructions.{instruction_of};
 

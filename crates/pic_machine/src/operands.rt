@@ -1,3 +1,4 @@
+// The register that an instruction names, and the byte that it reads there.
 ghost use Rattle.std.specs.Prelude.{◌≡◌, ◌<◌};
 ghost use Rattle.pic_regs.specs.Bytes.{bits};
 ghost use Rattle.pic_regs.specs.Places.{IsPlace, reg_of};

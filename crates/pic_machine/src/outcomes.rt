@@ -1,3 +1,5 @@
+// The result of an instruction, with its flags.
+
 // The flags that a result gives: none; Z; C; or C, DC and Z.
 #[derive(Clone, Copy)]
 pub(crate) enum Flags {

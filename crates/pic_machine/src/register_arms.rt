@@ -1,3 +1,4 @@
+// Instructions on a register, with a destination.
 ghost use Rattle.std.specs.Prelude.{◌≡◌, ◌<◌, Some};
 ghost use Rattle.pic_machine.specs.Exec.{exec};
 ghost use Rattle.pic_machine.specs.State.{cpu_of, done_of};

@@ -1,3 +1,4 @@
+// Results and their flags, by the data sheet's rules.
 ghost use Rattle.std.specs.Prelude.{◌≡◌};
 ghost use Rattle.pic_regs.specs.Bytes.{bits, is_zero};
 ghost use Rattle.pic_machine.specs.Results.{All, minus, one_less, one_more, plus, turned_left, turned_right};

@@ -1,3 +1,4 @@
+// Power-on, arrivals, takings, and what is seen of the chip.
 ghost use Rattle.std.specs.Prelude.{◌≡◌, ◌<◌};
 ghost use Rattle.pic_regs.specs.Arrivals.{latched, merged, number_of, set_of};
 ghost use Rattle.pic_regs.specs.Bytes.{bits};
@@ -22,6 +23,7 @@ impl Cpu {
             stack: [0x0000; 8],
             top: 0,
             depth: 0,
+            due: false,
         }
     }
 
@@ -43,14 +45,22 @@ impl Cpu {
         self.regs.requested()
     }
 
-    // Takes an interrupt: the address of the next instruction is pushed, GIE becomes 0, and control goes to
-    // 0004h.
+    // Takes an interrupt: the address of the next instruction is pushed, GIE becomes 0, control goes to 0004h,
+    // and no interrupt is due.
     pub(crate) fn take(&mut self)
         ensures { cpu_of self.new ≡ (took (cpu_of self.old)).after }
     {
         self.push();
         self.pc = 0x0004;
         self.regs.set_gie(false);
+        self.due = false;
+    }
+
+    // An interrupt is due.
+    pub(crate) fn due(&self) -> bool
+        ensures { result ≡ (cpu_of self.now).due }
+    {
+        self.due
     }
 
     // The address of the next instruction, below 8,192.

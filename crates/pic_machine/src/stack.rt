@@ -1,3 +1,4 @@
+// The program counter and the return stack.
 ghost use Rattle.std.specs.Prelude.{◌≡◌, ◌<◌};
 ghost use Rattle.pic_machine.specs.Chip.{advanced, jumped, popped, pushed, skipping};
 ghost use Rattle.pic_machine.specs.State.{cpu_of};

@@ -1,3 +1,5 @@
+// What a step reports.
+
 /// Why a step stopped: the word at the program counter is no instruction, or it is SLEEP.
 #[derive(Clone, Copy, Debug, PartialEq, Eq)]
 pub enum Why {

@@ -7,7 +7,7 @@ use Rattle.pic_machine.specs.declared.steps.Why.TheVariants.{UnknownWord, Sleep}
 use Rattle.pic_machine.specs.declared.steps.Stepped.{Stepped}
 use Rattle.pic_machine.specs.declared.steps.Did.{Did}
 use Rattle.pic_machine.specs.Chip.{Chip}
-use Rattle.pic_machine.specs.Boundary.{Step, boundary, stepped}
+use Rattle.pic_machine.specs.Boundary.{Step, no_outer, boundary, stepped}
 use Rattle.pic_machine.proofs.SettingFacts.{fresh, with_w, with_pc, with_byte, at}
 
 -- A chip at 0123h with INTCON, PIE1 and PIE2 given, and a boundary of it where a word stands and sources arrive.
@@ -15,7 +15,7 @@ abbrev chip : ℕ → ℕ → ℕ → Chip
 chip intcon pie1 pie2 = with_pc 0x0123 (with_byte 0x00B intcon (with_byte 0x08C pie1 (with_byte 0x08D pie2 fresh)))
 
 abbrev step : ℕ → ℕ → Chip → Step
-step word arrivals c = boundary (λ address. word) (set_of arrivals) c
+step word arrivals c = boundary (λ address. word) (record no_outer { arrivals = set_of arrivals }) c
 
 abbrev nothing_written : ℕ → ℕ → Did → Stepped
 nothing_written those these what = record { latched = those; merged = these; did = what; wrote = None; port = None }

@@ -5,9 +5,9 @@ use Rattle.hex_file.specs.declared.images.Word.{Word}
 use Rattle.hex_file.specs.declared.images.Image.{Image}
 use Rattle.pic_regs.specs.declared.starts.Start.{Start}
 use Rattle.pic_regs.specs.Bytes.{num}
-use Rattle.pic_regs.specs.Arrivals.{Sources, set_of, number_of}
+use Rattle.pic_regs.specs.Arrivals.{set_of, number_of}
 use Rattle.pic_machine.specs.declared.steps.Did.TheVariants.{Took, Ran}
-use Rattle.pic_machine.specs.Boundary.{Step}
+use Rattle.pic_machine.specs.Boundary.{Outer, Step, no_outer}
 use Rattle.pic_machine.specs.Run.{program_of, run}
 use Rattle.pic_machine.proofs.SettingFacts.{at}
 
@@ -22,11 +22,11 @@ abbrev start : Start
 start = record { ram = replicate 368 0xEE; w = 0x77; flags = 0x02 }
 
 -- INT arrives at the fourth boundary, and nothing past the end of the list.
-abbrev arrivals : List Sources
-arrivals = set_of 0 ∷ set_of 0 ∷ set_of 0 ∷ set_of 2 ∷ []
+abbrev outer : List Outer
+outer = no_outer ∷ no_outer ∷ no_outer ∷ record no_outer { arrivals = set_of 2 } ∷ []
 
 abbrev step : ℕ → Step
-step n = run image start arrivals n
+step n = run image start outer n
 
 absent_words : program_of image 3 ≡ 0x3FFF
 absent_words = refl

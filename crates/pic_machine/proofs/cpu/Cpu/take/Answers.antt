@@ -5,5 +5,5 @@ use Rattle.pic_machine.proofs.cpu.Cpu.take.Goals as goal
 
 pub returns : goal.returns
 returns c =
-    ap (λ r. record (cpu_of c.push.new.self) { pc = 0x0004; regs = r }) c.set_gie.ensures
-    ∙ ap (λ d. with_gie false (record d { pc = 0x0004 })) c.push.ensures
+    ap (λ r. record (cpu_of c.push.new.self) { pc = 0x0004; regs = r; due = false }) c.set_gie.ensures
+    ∙ ap (λ d. with_gie false (record d { pc = 0x0004; due = false })) c.push.ensures
