@@ -94,17 +94,16 @@ stored-due Pcl result c = refl
 stored-due Status result c = refl
 stored-due _ result c = refl
 
-due_of : Bool → Option Done → Bool
+-- `due` once an instruction has run; SLEEP leaves it.
+abbrev pub due_of : Bool → Option Done → Bool
 due_of due (Some done) = done.chip.due
 due_of due None = due
 
 gives-due : (d : Dest) (reg : Reg) (result : Outcome) (c : Chip) → due_of c.due (gives d reg result c) ≡ c.due
-unfolding due_of
 gives-due W reg result c = refl
 gives-due F reg result c = stored-due reg result c
 
 pub exec_on-due : (i : Instr) (reg : Reg) (c : Chip) → due_of c.due (exec_on i reg c) ≡ c.due
-unfolding due_of
 exec_on-due (Addwf f d) reg c = gives-due d reg _ c
 exec_on-due (Andwf f d) reg c = gives-due d reg _ c
 exec_on-due (Clrf f) reg c = stored-due reg _ c
@@ -126,7 +125,6 @@ exec_on-due (Bsf f b) reg c = stored-due reg _ c
 exec_on-due _ reg c = refl
 
 ended-due : (word : ℕ) (c : Chip) (done : Option Done) → (ended word c done).after.due ≡ due_of c.due done
-unfolding due_of
 ended-due word c (Some done) = refl
 ended-due word c None = refl
 

@@ -94,7 +94,7 @@ impl Cpu {
     pub(crate) fn turn(&mut self, memory: &Memory, late: bool) -> Turned
         ensures { turn_of result (cpu_of self.new)
             ≡ turn (cpu_of self.old).due (requested (cpu_of self.old).regs) late
-              (words_of memory.now (cpu_of self.old).pc) (cpu_of self.old) }
+            (words_of memory.now (cpu_of self.old).pc) (cpu_of self.old) }
     {
         if self.due() {
             self.take_turn()
