@@ -1,3 +1,4 @@
+-- What a program may cost: bounds on words, bytes of RAM and steps, from weights of its expressions.
 use Rattle.std.specs.Prelude.{ℕ, ◌+◌, ◌*◌, ◌≤◌, max, ◌==◌, List, [], ◌∷◌, length, map, sum_by, Option, Some, if◌then◌else◌}
 use Rattle.std.specs.List.{list_any}
 use Rattle.frp_tree.specs.declared.syntax.Ty.{Ty}
@@ -6,9 +7,9 @@ use Rattle.frp_tree.specs.declared.syntax.UnOp.{UnOp}
 use Rattle.frp_tree.specs.declared.syntax.UnOp.TheVariants.{Com, Not}
 use Rattle.frp_tree.specs.declared.syntax.BinOp.{BinOp}
 use Rattle.frp_tree.specs.declared.syntax.BinOp.TheVariants.{Or, And, Eq, Ne, Lt, Le, Gt, Ge, BitOr, BitXor, BitAnd, Add, Sub, Mul, Div, Rem}
-use Rattle.frp_tree.specs.Tree.{Tree, Const, Name, Unary, Binary, Shift, If, Convert, BehaviourTree, Plain, Reactive, ProgramTree}
+use Rattle.frp_tree.specs.Tree.{Tree, Const, Name, Unary, Binary, Shift, If, Convert, Look, BehaviourTree, Plain, Input, Table, Reactive, ProgramTree}
 use Rattle.efrp_meaning.specs.Types.{type_of}
-use Rattle.efrp_meaning.specs.Needs.{needed}
+use Rattle.efrp_meaning.specs.Needs.{needed, inputs_needed}
 
 -- The bytes of a value of this type.
 abbrev pub type_bytes : Ty → ℕ
@@ -53,6 +54,7 @@ weight p (Binary op a b) = binary_weight op (type_of p a) + (weight p a + weight
 weight p (Shift side a amount) = by_width (type_of p a) 32 80 + weight p a
 weight p (If c a b) = by_width (type_of p a) 24 40 + (weight p c + (weight p a + weight p b))
 weight p (Convert to a) = 12 + weight p a
+weight p (Look table index) = by_width (type_of p (Look table index)) 40 80 + weight p index
 
 -- The bytes of the results of all nodes of an expression.
 abbrev pub result_bytes : ProgramTree → Tree → ℕ
@@ -63,14 +65,27 @@ result_bytes p (Binary op a b) = by_width (type_of p (Binary op a b)) 1 2 + (res
 result_bytes p (Shift side a amount) = by_width (type_of p (Shift side a amount)) 1 2 + result_bytes p a
 result_bytes p (If c a b) = by_width (type_of p (If c a b)) 1 2 + (result_bytes p c + (result_bytes p a + result_bytes p b))
 result_bytes p (Convert to a) = by_width (type_of p (Convert to a)) 1 2 + result_bytes p a
+result_bytes p (Look table index) = by_width (type_of p (Look table index)) 1 2 + result_bytes p index
 
 -- The bytes of the states: one for each reactive definition of a bool or a u8, two for each of a u16.
 abbrev pub bytes_in : Ty → BehaviourTree → ℕ
 bytes_in t (Plain e) = 0
+bytes_in t (Input port) = 0
+bytes_in t (Table entries) = 0
 bytes_in t (Reactive init clauses) = type_bytes t
 
 abbrev pub state_bytes : ProgramTree → ℕ
 state_bytes p = sum_by (λ d. bytes_in d.ty d.behaviour) p.decls
+
+-- The words of the tables: for each byte of a value one word an entry, and 16 more.
+abbrev pub words_in : Ty → BehaviourTree → ℕ
+words_in t (Plain e) = 0
+words_in t (Input port) = 0
+words_in t (Table entries) = type_bytes t * (length entries + 16)
+words_in t (Reactive init clauses) = 0
+
+abbrev pub table_words : ProgramTree → ℕ
+table_words p = sum_by (λ d. words_in d.ty d.behaviour) p.decls
 
 -- How many distinct numbers there are.
 abbrev pub distinct : List ℕ → ℕ
@@ -89,30 +104,34 @@ greatest (n ∷ ns) = max n (greatest ns)
 abbrev pub commit_bytes : ProgramTree → ℕ
 commit_bytes p = state_bytes p + length p.outputs
 
--- The weight of all that an event needs.
+-- The weight of all that an event needs: of its expressions, and 6 for each input.
 abbrev pub body : ProgramTree → List ℕ → ℕ
-body p event = sum_by (weight p) (needed p event)
+body p event = sum_by (weight p) (needed p event) + 6 * length (inputs_needed p event)
 
--- In steps: the longest stretch with interrupts off; and the boot, to which two more come up to the ready boundary.
+-- The bytes of scratch of an event: those of the results of all that it needs, and one for each input.
+abbrev pub scratch_bytes : ProgramTree → List ℕ → ℕ
+scratch_bytes p event = sum_by (result_bytes p) (needed p event) + length (inputs_needed p event)
+
+-- In steps: a bound on each stretch with interrupts off; and one on the boot, to which two more come up to the ready boundary.
 abbrev pub off : ProgramTree → ℕ
 off p = 80 + 16 * length p.events + 6 * commit_bytes p
 
 abbrev pub boot : ProgramTree → ℕ
 boot p = 48 + 4 * state_bytes p + 4 * length p.setups
 
--- In words: the whole image.
+-- In words: a bound on the whole image.
 abbrev pub words_bound : ProgramTree → ℕ
-words_bound p = 64 + 16 * length p.events + boot p + sum_by (λ e. 128 + body p e.name + 6 * commit_bytes p) p.events
+words_bound p = 64 + 16 * length p.events + boot p + sum_by (λ e. 128 + body p e.name + 6 * commit_bytes p) p.events + table_words p
 
--- In bytes of general RAM: states, six for each level, and scratch.
+-- In bytes of general RAM: a bound on states, six for each level, and scratch.
 abbrev pub ram_bound : ProgramTree → ℕ
-ram_bound p = state_bytes p + 6 * levels p + greatest (map (λ e. sum_by (result_bytes p) (needed p e.name)) p.events)
+ram_bound p = state_bytes p + 6 * levels p + greatest (map (λ e. scratch_bytes p e.name) p.events)
 
--- In steps: from an arrival to its commit where nothing of its own or a higher priority is about.
+-- In steps: a bound on the way from an arrival to its commit where nothing of its own or a higher priority is about.
 abbrev pub response : ProgramTree → List ℕ → ℕ
 response p event = 3 * off p + body p event
 
--- In steps: from the last arrival until all have reacted.
+-- In steps: a bound on the way from the last arrival until all have reacted.
 abbrev pub settle_bound : ProgramTree → ℕ
 settle_bound p = boot p + 2 + sum_by (λ e. 3 * body p e.name + 4 * off p) p.events
 

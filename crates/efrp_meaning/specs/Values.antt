@@ -1,4 +1,6 @@
-use Rattle.std.specs.Prelude.{ℕ, ◌+◌, ◌-◌, ◌*◌, ◌/◌, ◌%◌, ◌^◌, Bool, true, false, not, ◌&&◌, ◌||◌, ◌==◌, nat_lt, nat_le, bit_and, bit_or, bit_xor, if◌then◌else◌, Option, option_map}
+-- The values of literals, operators and tables, as numbers.
+use Rattle.std.specs.Prelude.{ℕ, ◌+◌, ◌-◌, ◌*◌, ◌/◌, ◌%◌, ◌^◌, Bool, true, false, not, ◌&&◌, ◌||◌, ◌==◌, nat_lt, nat_le, bit_and, bit_or, bit_xor, if◌then◌else◌, List, length, slice_get, Option, None, option_map, option_and_then}
+use Rattle.std.specs.List.{last_or}
 use Rattle.frp_tree.specs.declared.syntax.Ty.{Ty}
 use Rattle.frp_tree.specs.declared.syntax.Ty.TheVariants as ty
 use Rattle.frp_tree.specs.declared.syntax.Lit.{Lit}
@@ -72,3 +74,11 @@ if_value c a b = if holds c then a else b
 abbrev pub convert_value : Ty → ℕ → ℕ
 convert_value ty.U8 a = a % 256
 convert_value _ a = a
+
+-- The entry with this number, counted from 0, or the last one where there are not as many.
+abbrev pub entry_at : {A : Type 0} → List A → ℕ → Option A
+entry_at entries i = if nat_lt i (length entries) then slice_get entries i else last_or None entries
+
+-- Its number.
+abbrev pub number_at : List Lit → ℕ → Option ℕ
+number_at entries i = option_and_then literal_number (entry_at entries i)

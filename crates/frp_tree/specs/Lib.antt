@@ -2,5 +2,6 @@ pub mod Digits
 pub mod Fronts
 pub mod Literals
 pub mod Names
+pub mod Priorities
 pub mod Tokens
 pub mod Tree

@@ -1,3 +1,4 @@
+-- A program as a tree, apart from where it lies in memory.
 use Rattle.std.specs.Prelude.{ℕ, Bool, List, map}
 use Rattle.frp_tree.specs.declared.syntax.Ty.{Ty}
 use Rattle.frp_tree.specs.declared.syntax.Lit.{Lit}
@@ -15,7 +16,7 @@ use Rattle.frp_tree.specs.declared.syntax.Decl.{Decl}
 use Rattle.frp_tree.specs.declared.syntax.Output.{Output}
 use Rattle.frp_tree.specs.declared.syntax.Program.{Program}
 
--- An expression, apart from where it lies in memory.
+-- An expression. `Look` has a table's name and the index.
 pub data Tree : Type 0 where
   Const : Lit → Tree
   Name : List ℕ → Tree
@@ -24,6 +25,7 @@ pub data Tree : Type 0 where
   Shift : Side → Tree → ℕ → Tree
   If : Tree → Tree → Tree → Tree
   Convert : Ty → Tree → Tree
+  Look : List ℕ → Tree → Tree
 
 -- A clause `event => expr;`, or `event => expr later;`.
 pub record ClauseTree : Type 0 where
@@ -31,9 +33,12 @@ pub record ClauseTree : Type 0 where
   pub expr : Tree
   pub later : Bool
 
--- A non-reactive definition has an expression; a reactive one has its first value and its clauses.
+-- A definition is an expression; or an input, which has a port's name; or a table, which has its entries; or it is reactive,
+-- and has its first value and its clauses.
 pub data BehaviourTree : Type 0 where
   Plain : Tree → BehaviourTree
+  Input : List ℕ → BehaviourTree
+  Table : List Lit → BehaviourTree
   Reactive : Lit → List ClauseTree → BehaviourTree
 
 pub record DeclTree : Type 0 where
@@ -45,7 +50,6 @@ pub record OutputTree : Type 0 where
   pub port : List ℕ
   pub expr : Tree
 
--- A program, apart from where it lies in memory.
 pub record ProgramTree : Type 0 where
   pub events : List Event
   pub setups : List Setup
@@ -61,12 +65,15 @@ tree_of (expr.Binary' op p a q b) = Binary op (tree_of a) (tree_of b)
 tree_of (expr.Shift' side p a amount) = Shift side (tree_of a) amount
 tree_of (expr.If' p c q a r b) = If (tree_of c) (tree_of a) (tree_of b)
 tree_of (expr.Convert' ty p a) = Convert ty (tree_of a)
+tree_of (expr.Look' table p index) = Look table (tree_of index)
 
 abbrev pub clause_of : Clause → ClauseTree
 clause_of c = record { event = c.event; expr = tree_of c.expr; later = c.later }
 
 abbrev pub behaviour_of : Behaviour → BehaviourTree
 behaviour_of (behaviour.Plain e) = Plain (tree_of e)
+behaviour_of (behaviour.Input port) = Input port
+behaviour_of (behaviour.Table entries) = Table entries
 behaviour_of (behaviour.Reactive init clauses) = Reactive init (map clause_of clauses)
 
 abbrev pub decl_of : Decl → DeclTree

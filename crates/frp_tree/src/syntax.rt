@@ -77,7 +77,8 @@ pub enum Side {
     Right,
 }
 
-/// An expression. The number of a `Shift` is its amount in bits.
+/// An expression. The number of a `Shift` is its amount in bits, and a `Look` has a table's name and
+/// the index of its entry.
 #[derive(Debug, Drop)]
 pub enum Expr {
     Const(Lit),
@@ -87,6 +88,7 @@ pub enum Expr {
     Shift(Side, Box<Expr>, u16),
     If(Box<Expr>, Box<Expr>, Box<Expr>),
     Convert(Ty, Box<Expr>),
+    Look(Text, Box<Expr>),
 }
 
 /// An event, the name of its source, and its priority. A larger number is more urgent.
@@ -112,10 +114,13 @@ pub struct Clause {
     pub later: bool,
 }
 
-/// A definition without a state, or with one.
+/// What a definition is: an expression, an input that reads the port of this name, a table of
+/// constants, or reactive, which alone has a state.
 #[derive(Debug, Drop)]
 pub enum Behaviour {
     Plain(Expr),
+    Input(Text),
+    Table(List<Lit>),
     Reactive { init: Lit, clauses: List<Clause> },
 }
 
@@ -143,12 +148,13 @@ pub struct Program {
     pub outputs: List<Output>,
 }
 
-/// The value that a literal stands for, and None exactly for a number above 255 with no suffix.
-/// Takes no memory.
+/// The value that a literal stands for, and None exactly for a number above 255 with no suffix: one
+/// with the suffix is at most 65,535 as it stands in memory. Takes no memory.
 pub fn lit_value(lit: &Lit) -> Option<Value>
     ensures { result ≡ lit_value_of lit.now }
 {
-    match *lit {
+    let lit = *lit;
+    match lit {
         Lit::Plain(n) if n <= 255 => Some(Value::U8(n as u8)),
         Lit::Plain(_) => None,
         Lit::Wide(n) => Some(Value::U16(n)),
