@@ -1,4 +1,4 @@
--- One counter of any names, on its event.
+-- One counter of any names, on its event: with any samples, since it has no input.
 use Rattle.std.specs.Prelude.{◌≡◌, ◌≤◌, ℕ, ◌+◌, ◌%◌, List, [], ◌∷◌, Some, refl}
 use Rattle.std.proofs.lemmas.Slice.Eq.{bytes_eq-Decides}
 use Rattle.std.proofs.lemmas.Bool.{le-leb}
@@ -8,7 +8,7 @@ use Rattle.frp_tree.specs.declared.syntax.BinOp.TheVariants.{Add}
 use Rattle.frp_tree.specs.declared.syntax.Event.{Event}
 use Rattle.frp_tree.specs.declared.syntax.Setup.{Setup}
 use Rattle.frp_tree.specs.Tree.{Name, Binary, ProgramTree}
-use Rattle.efrp_meaning.specs.Meaning.{react, initial_state}
+use Rattle.efrp_meaning.specs.Meaning.{Samples, react, initial_state}
 use Rattle.efrp_meaning.proofs.Examples.Programs.{clause, output, reactive, small}
 
 module _ (tick name port : List ℕ) (events : List Event) (setups : List Setup) (init step : ℕ) where
@@ -23,8 +23,8 @@ module _ (tick name port : List ℕ) (events : List Event) (setups : List Setup)
   pub one_counter-initial : init ≤ 255 → initial_state one_counter ≡ Some (init ∷ [])
   one_counter-initial fits = rw (le-leb init 255 fits) refl
 
-  pub one_counter-react : step ≤ 255 → (n : ℕ) → react one_counter (n ∷ []) tick ≡ Some (record { state = (n + step) % 256 ∷ []; ports = (n + step) % 256 ∷ [] })
-  one_counter-react fits n =
+  pub one_counter-react : step ≤ 255 → (n : ℕ) (j : Samples) → react one_counter (n ∷ []) j tick ≡ Some (record { state = (n + step) % 256 ∷ []; ports = (n + step) % 256 ∷ [] })
+  one_counter-react fits n j =
       let same_name = (bytes_eq-Decides name name).1 refl in
       let same_event = (bytes_eq-Decides tick tick).1 refl in
       simp (same_name, same_event, le-leb step 255 fits)

@@ -1,5 +1,5 @@
 -- What an event needs: expressions, definitions and inputs.
-use Rattle.std.specs.Prelude.{ℕ, Bool, ◌&&◌, nat_lt, List, [], ◌∷◌, ◌++◌, zero, suc, map, filter, find, length, Option, Some, None}
+use Rattle.std.specs.Prelude.{◌≡◌, ℕ, Bool, true, ◌&&◌, nat_lt, List, [], ◌∷◌, ◌++◌, zero, suc, map, filter, find, length, Option, Some, None}
 use Rattle.std.specs.List.{flat_map, list_any}
 use Rattle.std.specs.Str.{bytes_eq}
 use Rattle.frp_tree.specs.Tree.{Tree, Const, Name, Unary, Binary, Shift, If, Convert, Look, ClauseTree, BehaviourTree, Plain, Input, Table, Reactive, DeclTree, ProgramTree}
@@ -15,6 +15,10 @@ names_in (Shift side a amount) = names_in a
 names_in (If c a b) = names_in c ++ (names_in a ++ names_in b)
 names_in (Convert to a) = names_in a
 names_in (Look table index) = names_in index
+
+-- The name stands in the expression.
+abbrev pub IsNamedIn : List ℕ → Tree → Type 0
+IsNamedIn name e = list_any (bytes_eq name) (names_in e) ≡ true
 
 -- The name stands in one of the expressions.
 abbrev pub is_named_in : List ℕ → List Tree → Bool

@@ -1,10 +1,18 @@
--- States and samples that are typed, and definitions whose names differ.
-use Rattle.std.specs.Prelude.{◌≡◌, ◌≢◌, ℕ, ◌<◌, List, [], ◌∷◌, length}
-use Rattle.std.specs.List.{AllByRecursion}
+-- Values, states and samples that are typed, and definitions whose names differ.
+use Rattle.std.specs.Prelude.{◌≡◌, ℕ, ◌<◌, List, [], ◌∷◌, length, map, Option, Some, None}
+use Rattle.std.specs.List.{AllByRecursion, IsDistinct}
+use Rattle.std.specs.Str.{bytes_eq}
+use Rattle.frp_tree.specs.declared.syntax.Ty.{Ty}
 use Rattle.frp_tree.specs.Tree.{DeclTree, ProgramTree}
 use Rattle.efrp_meaning.specs.Decls.{reactive_decls, inputs_of}
 use Rattle.efrp_meaning.specs.Values.{modulus}
 use Rattle.efrp_meaning.specs.Meaning.{State, Samples}
+
+-- Where there is a type, there is a value of it.
+abbrev pub HasValue : Option Ty → Option ℕ → Type 0
+HasValue None o = Unit {0}
+HasValue (Some t) None = ⊥
+HasValue (Some t) (Some n) = n < modulus t
 
 -- There is a value for each of the definitions, and it is one of its type.
 abbrev pub AreValuesOf : List DeclTree → List ℕ → Type 0
@@ -21,6 +29,5 @@ pub record AreSamples (p : ProgramTree) (j : Samples) : Type 0 where
   pub bytes : AllByRecursion (λ (b : ℕ). b < 256) j
 
 -- No two definitions have one name.
-abbrev pub NamesDiffer : List DeclTree → Type 0
-NamesDiffer [] = Unit {0}
-NamesDiffer (d ∷ ds) = AllByRecursion (λ (other : DeclTree). d.name ≢ other.name) ds × NamesDiffer ds
+abbrev pub NamesDiffer : ProgramTree → Type 0
+NamesDiffer p = IsDistinct bytes_eq (map (λ d. d.name) p.decls)
