@@ -1,4 +1,5 @@
 pub mod CausalLaws
+pub mod DefinedLaws
 pub mod Examples
 pub mod FirstFormLaws
 pub mod MeaningLaws

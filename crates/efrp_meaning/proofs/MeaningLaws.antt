@@ -1,6 +1,7 @@
 -- Laws of values, reactions and serial runs, for every program.
 use Rattle.std.specs.Prelude.{◌≡◌, ℕ, zero, suc, List, [], ◌∷◌, ◌++◌, Option, Some, None, Bool, true, false, refl, option_map, option_and_then, if◌then◌else◌}
 use Rattle.std.specs.Str.{bytes_eq}
+use Rattle.std.proofs.Common.{sym, ap, ◌∙◌}
 use Rattle.std.proofs.lemmas.List.Sums.{fold-append}
 use Rattle.frp_tree.specs.Tree.{Tree, Const, Name, Unary, Binary, Shift, If, Convert, Look, DeclTree, ProgramTree}
 use Rattle.efrp_meaning.specs.Decls.{decl_named}
@@ -89,3 +90,10 @@ module _ (p : ProgramTree) (s : State) (j : Samples) (event : List ℕ) where
   value_on-deeper zero x n found = cc
   value_on-deeper (suc k) x n found =
       value_of-kept p s j (λ y. value_on p s j event y k) (λ y. value_on p s j event y (suc k)) (value_on-deeper k) event x (decl_named p.decls x) n found
+
+  -- The values solve the equations, at whatever depth they are defined.
+  pub value_on-solves : (k : ℕ) (x : List ℕ) (n : ℕ) (d : DeclTree) → decl_named p.decls x ≡ Some d → value_on p s j event x k ≡ Some n → value_by p s j (λ y. value_on p s j event y k) x (rule_on event d.behaviour) ≡ Some n
+  value_on-solves zero x n d is found = cc
+  value_on-solves (suc k) x n d is found =
+      value_by-kept p s j (λ y. value_on p s j event y k) (λ y. value_on p s j event y (suc k)) (value_on-deeper k) x (rule_on event d.behaviour) n (
+      sym (ap (option_and_then (λ c. value_by p s j (λ y. value_on p s j event y k) x (rule_on event c.behaviour))) is) ∙ found)

@@ -1,6 +1,7 @@
 pub mod Bounds
 pub mod Causal
 pub mod Decls
+pub mod Laws
 pub mod Meaning
 pub mod Needs
 pub mod States
