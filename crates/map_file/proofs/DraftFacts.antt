@@ -1,5 +1,5 @@
 -- What a draft of a map says of the entries read so far.
-use Rattle.std.proofs.Common.{◌≡◌, ◌≢◌, ℕ, ◌+◌, ◌<◌, ◌≤◌, Bool, true, false, not, ◌==◌, nat_lt, List, [], ◌∷◌, ◌++◌, length, map, Option, Some, option_and_then, inl, inr, refl, sym, ap, subst, ◌∙◌, arith}
+use Rattle.std.proofs.Common.{◌≡◌, ◌≢◌, ℕ, ◌+◌, ◌<◌, ◌≤◌, Bool, true, false, not, ◌&&◌, ◌||◌, ◌==◌, nat_lt, List, [], ◌∷◌, ◌++◌, length, map, Option, Some, option_and_then, inl, inr, refl, sym, ap, subst, ◌∙◌, arith}
 use Rattle.std.specs.List.{filter_map, list_all, AllByRecursion}
 use Rattle.std.specs.Map.{lookup}
 use Rattle.std.specs.Str.{bytes_eq}
@@ -12,6 +12,7 @@ use Rattle.pic_isa.specs.declared.sources.Source.TheVariants as source
 use Rattle.pic_isa.specs.Sources.{source_number}
 use Rattle.map_file.specs.declared.maps.MapEvent.{MapEvent}
 use Rattle.map_file.specs.declared.maps.MapState.{MapState}
+use Rattle.map_file.specs.declared.maps.MapSample.{MapSample}
 use Rattle.map_file.specs.declared.maps.Range.{Range}
 use Rattle.map_file.specs.declared.maps.Map.{Map}
 use Rattle.map_file.specs.declared.drafts.Draft.{Draft}
@@ -19,11 +20,11 @@ use Rattle.map_file.specs.declared.entries.Entry.{Entry}
 use Rattle.map_file.specs.declared.entries.Entry.TheVariants as entry
 use Rattle.map_file.specs.declared.entries.Section.{Section}
 use Rattle.map_file.specs.declared.entries.Section.TheVariants as section
-use Rattle.map_file.specs.MapRules.{IsMap, IsEvent, IsState, AllDiffer, RangesRise}
+use Rattle.map_file.specs.MapRules.{IsMap, IsEvent, IsSample, IsState, AllDiffer, RangesRise, names_event, pair}
 use Rattle.map_file.specs.Entries.{section_after, entries_of, report_of, IsEntry, IsRange}
-use Rattle.map_file.specs.Drafts.{admits, with_entry, lowest_with, Added, events_differ, states_differ, empty_draft}
+use Rattle.map_file.specs.Drafts.{admits, with_entry, lowest_with, Added, events_differ, states_differ, samples_differ, empty_draft}
 use Rattle.map_file.proofs.FieldCutFacts.{all_append}
-use Rattle.map_file.proofs.EntryOrderFacts.{run, run-append, out_of_order, event_in, state_in, output_in, range_in, events_of, states_of, outputs_of, ranges_of}
+use Rattle.map_file.proofs.EntryOrderFacts.{run, run-append, out_of_order, no_event_after_sample, event_in, state_in, output_in, sample_in, range_in, events_of, states_of, outputs_of, samples_of, ranges_of}
 
 -- Names and sources that differ.
 
@@ -105,21 +106,62 @@ states_pass : (xs : List MapState) (s : MapState) → AllByRecursion (λ other. 
 states_pass [] s h = refl
 states_pass (x ∷ xs) s h = and_from (states_differ x s) (list_all (λ other. states_differ other s) xs) (names_differ x.name s.name h.0) (states_pass xs s h.1)
 
+-- Samples of other pairs.
+
+pairs_apart : (a b : MapSample) → samples_differ a b ≡ true → pair b ≢ pair a
+pairs_apart a b h e =
+    let events = (bytes_eq-Decides a.event b.event).1 (sym (ap (λ (p : List ℕ × List ℕ). p.0) e)) in
+    let inputs = (bytes_eq-Decides a.input b.input).1 (sym (ap (λ (p : List ℕ × List ℕ). p.1) e)) in
+    let test = bytes_eq a.event b.event && bytes_eq a.input b.input in
+    both_ways test (not-true test h) (and_from (bytes_eq a.event b.event) (bytes_eq a.input b.input) events inputs)
+
+pairs_differ : (a b : MapSample) → pair b ≢ pair a → samples_differ a b ≡ true
+pairs_differ a b h = go (bytes_eq a.event b.event && bytes_eq a.input b.input) refl
+  where
+    go : (t : Bool) → (bytes_eq a.event b.event && bytes_eq a.input b.input) ≡ t → not t ≡ true
+    go false e = refl
+    go true e =
+        let (events, inputs) = and_parts (bytes_eq a.event b.event) (bytes_eq a.input b.input) e in
+        let event = sym ((bytes_eq-Decides a.event b.event).0 events) in
+        let input = sym ((bytes_eq-Decides a.input b.input).0 inputs) in
+        absurd (h (λ i. (event i, input i)))
+
+samples_apart : (xs : List MapSample) (s : MapSample) → list_all (λ other. samples_differ other s) xs ≡ true → AllByRecursion (λ other. pair s ≢ pair other) xs
+samples_apart [] s h = tt
+samples_apart (x ∷ xs) s h = let (here, rest) = and_parts (samples_differ x s) (list_all (λ other. samples_differ other s) xs) h in (pairs_apart x s here, samples_apart xs s rest)
+
+samples_pass : (xs : List MapSample) (s : MapSample) → AllByRecursion (λ other. pair s ≢ pair other) xs → list_all (λ other. samples_differ other s) xs ≡ true
+samples_pass [] s h = refl
+samples_pass (x ∷ xs) s h = and_from (samples_differ x s) (list_all (λ other. samples_differ other s) xs) (pairs_differ x s h.0) (samples_pass xs s h.1)
+
+-- With one more event each sample is still of an event.
+named_more : (es : List MapEvent) (e : MapEvent) (name : List ℕ) → names_event es name ≡ true → names_event (es ++ e ∷ []) name ≡ true
+named_more [] e name h = cc
+named_more (x ∷ es) e name h = go (bytes_eq x.name name) (named_more es e name) h
+  where
+    go : (t : Bool) → (names_event es name ≡ true → names_event (es ++ e ∷ []) name ≡ true) → (t || names_event es name) ≡ true → (t || names_event (es ++ e ∷ []) name) ≡ true
+    go true more k = refl
+    go false more k = more k
+
+samples_more : (es : List MapEvent) (e : MapEvent) (ss : List MapSample) → AllByRecursion (IsSample es) ss → AllByRecursion (IsSample (es ++ e ∷ [])) ss
+samples_more es e [] h = tt
+samples_more es e (s ∷ ss) h = (record { event = named_more es e s.event h.0.event; input = h.0.input; at = h.0.at }, samples_more es e ss h.1)
+
 -- Ranges that rise.
 
-abbrev pub lowest_behind : ℕ → List Range → ℕ
-lowest_behind low [] = low
-lowest_behind low (r ∷ rs) = lowest_behind (r.to + 2) rs
+abbrev pub lowest_after : ℕ → List Range → ℕ
+lowest_after low [] = low
+lowest_after low (r ∷ rs) = lowest_after (r.to + 2) rs
 
-lowest_push : (low : ℕ) (rs : List Range) (r : Range) → lowest_behind low (rs ++ r ∷ []) ≡ r.to + 2
+lowest_push : (low : ℕ) (rs : List Range) (r : Range) → lowest_after low (rs ++ r ∷ []) ≡ r.to + 2
 lowest_push low [] r = refl
 lowest_push low (x ∷ rs) r = lowest_push (x.to + 2) rs r
 
-rise_push : (low : ℕ) (rs : List Range) (r : Range) → RangesRise low rs → lowest_behind low rs ≤ r.from → IsRange r → RangesRise low (rs ++ r ∷ [])
+rise_push : (low : ℕ) (rs : List Range) (r : Range) → RangesRise low rs → lowest_after low rs ≤ r.from → IsRange r → RangesRise low (rs ++ r ∷ [])
 rise_push low [] r h k v = (k, v.0, v.1, tt)
 rise_push low (x ∷ rs) r h k v = (h.0, h.1, h.2, rise_push (x.to + 2) rs r h.3 k v)
 
-rise_front : (low : ℕ) (rs : List Range) (r : Range) (more : List Range) → RangesRise low (rs ++ r ∷ more) → lowest_behind low rs ≤ r.from
+rise_front : (low : ℕ) (rs : List Range) (r : Range) (more : List Range) → RangesRise low (rs ++ r ∷ more) → lowest_after low rs ≤ r.from
 rise_front low [] r more h = h.0
 rise_front low (x ∷ rs) r more h = rise_front (x.to + 2) rs r more h.3
 
@@ -130,15 +172,17 @@ so_far section.Start m = []
 so_far section.Events m = entry.Head ∷ map entry.Event m.events
 so_far section.States m = entry.Head ∷ (map entry.Event m.events ++ map entry.State m.states)
 so_far section.Outputs m = entry.Head ∷ (map entry.Event m.events ++ (map entry.State m.states ++ map entry.Output m.outputs))
-so_far section.Registers m = entry.Head ∷ (map entry.Event m.events ++ (map entry.State m.states ++ (map entry.Output m.outputs ++ (entry.Ready m.ready ∷ map entry.Regs m.regs))))
+so_far section.Samples m = entry.Head ∷ (map entry.Event m.events ++ (map entry.State m.states ++ (map entry.Output m.outputs ++ map entry.Sample m.samples)))
+so_far section.Registers m = entry.Head ∷ (map entry.Event m.events ++ (map entry.State m.states ++ (map entry.Output m.outputs ++ (map entry.Sample m.samples ++ (entry.Ready m.ready ∷ map entry.Regs m.regs)))))
 so_far section.End m = entries_of m
 
 -- What later sections hold is still empty.
 abbrev pub IsLater : Section → Map → Type 0
-IsLater section.Start m = (m.events ≡ []) × (m.states ≡ []) × (m.outputs ≡ []) × (m.regs ≡ [])
-IsLater section.Events m = (m.states ≡ []) × (m.outputs ≡ []) × (m.regs ≡ [])
-IsLater section.States m = (m.outputs ≡ []) × (m.regs ≡ [])
-IsLater section.Outputs m = m.regs ≡ []
+IsLater section.Start m = (m.events ≡ []) × (m.states ≡ []) × (m.outputs ≡ []) × (m.samples ≡ []) × (m.regs ≡ [])
+IsLater section.Events m = (m.states ≡ []) × (m.outputs ≡ []) × (m.samples ≡ []) × (m.regs ≡ [])
+IsLater section.States m = (m.outputs ≡ []) × (m.samples ≡ []) × (m.regs ≡ [])
+IsLater section.Outputs m = (m.samples ≡ []) × (m.regs ≡ [])
+IsLater section.Samples m = m.regs ≡ []
 IsLater section.Registers m = Unit {0}
 IsLater section.End m = Unit {0}
 
@@ -148,20 +192,22 @@ pub record IsDraft (xs : List Entry) (d : Draft) : Type 0 where
   pub events : filter_map event_in xs ≡ d.map.events
   pub states : filter_map state_in xs ≡ d.map.states
   pub outputs : filter_map output_in xs ≡ d.map.outputs
+  pub samples : filter_map sample_in xs ≡ d.map.samples
   pub ranges : filter_map range_in xs ≡ d.map.regs
-  pub lowest : d.lowest ≡ lowest_behind 0 d.map.regs
+  pub lowest : d.lowest ≡ lowest_after 0 d.map.regs
   pub later : IsLater d.section d.map
   pub rules : IsMap d.map
 
 pub empty_is_draft : IsDraft [] empty_draft
-empty_is_draft = record { entries = refl; reached = refl; events = refl; states = refl; outputs = refl; ranges = refl; lowest = refl; later = (refl, refl, refl, refl); rules = search (arith) }
+empty_is_draft = record { entries = refl; reached = refl; events = refl; states = refl; outputs = refl; samples = refl; ranges = refl; lowest = refl; later = (refl, refl, refl, refl, refl); rules = search (arith) }
 
--- Each draft's entries are a front of its map's.
+-- Each draft's entries are a prefix of its map's.
 pub still_to_come : (s : Section) (m : Map) → (more : List Entry) × (entries_of m ≡ so_far s m ++ more)
 still_to_come section.Start m = (entries_of m, refl)
 still_to_come section.Events m = (_, refl)
 still_to_come section.States m = (_, ap (λ u. entry.Head ∷ u) (sym (append_assoc (map entry.Event m.events) (map entry.State m.states) _)))
-still_to_come section.Outputs m = (entry.Ready m.ready ∷ (map entry.Regs m.regs ++ (entry.Report (report_of m) ∷ [])), simp append_assoc)
+still_to_come section.Outputs m = (map entry.Sample m.samples ++ (entry.Ready m.ready ∷ (map entry.Regs m.regs ++ (entry.Report (report_of m) ∷ []))), simp append_assoc)
+still_to_come section.Samples m = (entry.Ready m.ready ∷ (map entry.Regs m.regs ++ (entry.Report (report_of m) ∷ [])), simp append_assoc)
 still_to_come section.Registers m = (entry.Report (report_of m) ∷ [], simp append_assoc)
 still_to_come section.End m = ([], sym (append-nil (entries_of m)))
 
@@ -170,59 +216,28 @@ still_to_come section.End m = ([], sym (append-nil (entries_of m)))
 Pushed : Section → Map → Entry → List Entry → Type 0
 Pushed t m e xs = (so_far t (with_entry m e) ≡ xs ++ e ∷ []) × IsLater t (with_entry m e)
 
+placed : (u t : Section) (m : Map) (e : Entry) (xs : List Entry) → Some u ≡ Some t → Pushed u m e xs → Pushed t m e xs
+placed u t m e xs same it = let there : u ≡ t = cc same in subst (λ v. Pushed v m e xs) there it
+
 pushed : (s t : Section) (m : Map) (e : Entry) → IsLater s m → section_after s e ≡ Some t → Pushed t m e (so_far s m)
 unfolding Pushed
-pushed section.Start t m entry.Head l h =
-    let same : section.Events ≡ t = cc h in subst (λ u. Pushed u m entry.Head []) same (ap (λ es. entry.Head ∷ map entry.Event es) l.0, (l.1, l.2, l.3))
-pushed section.Events t m (entry.Event e) l h =
-    let same : section.Events ≡ t = cc h in subst (λ u. Pushed u m (entry.Event e) (so_far section.Events m)) same (ap (λ u. entry.Head ∷ u) (map-append entry.Event m.events (e ∷ [])), l)
-pushed section.Events t m (entry.State s) l h =
-    let same : section.States ≡ t = cc h in
-    subst (λ u. Pushed u m (entry.State s) (so_far section.Events m)) same (ap (λ ss. entry.Head ∷ (map entry.Event m.events ++ map entry.State (ss ++ s ∷ []))) l.0, (l.1, l.2))
-pushed section.Events t m (entry.Output port) l h =
-    let same : section.Outputs ≡ t = cc h in
-    subst (λ u. Pushed u m (entry.Output port) (so_far section.Events m)) same (
-      ap (λ ss. entry.Head ∷ (map entry.Event m.events ++ (map entry.State ss ++ map entry.Output (m.outputs ++ port ∷ [])))) l.0
-          ∙ ap (λ os. entry.Head ∷ (map entry.Event m.events ++ map entry.Output (os ++ port ∷ []))) l.1,
-      l.2,
-    )
-pushed section.Events t m (entry.Ready address) l h =
-    let same : section.Registers ≡ t = cc h in
-    subst (λ u. Pushed u m (entry.Ready address) (so_far section.Events m)) same (
-      ap (λ ss. entry.Head ∷ (map entry.Event m.events ++ (map entry.State ss ++ (map entry.Output m.outputs ++ (entry.Ready address ∷ map entry.Regs m.regs))))) l.0
-          ∙ ap (λ os. entry.Head ∷ (map entry.Event m.events ++ (map entry.Output os ++ (entry.Ready address ∷ map entry.Regs m.regs)))) l.1
-          ∙ ap (λ rs. entry.Head ∷ (map entry.Event m.events ++ (entry.Ready address ∷ map entry.Regs rs))) l.2,
-      tt,
-    )
-pushed section.States t m (entry.State s) l h =
-    let same : section.States ≡ t = cc h in subst (λ u. Pushed u m (entry.State s) (so_far section.States m)) same (simp (map-append, append_assoc), l)
-pushed section.States t m (entry.Output port) l h =
-    let same : section.Outputs ≡ t = cc h in
-    subst (λ u. Pushed u m (entry.Output port) (so_far section.States m)) same (
-      ap (λ os. entry.Head ∷ (map entry.Event m.events ++ (map entry.State m.states ++ map entry.Output (os ++ port ∷ [])))) l.0
-          ∙ ap (λ u. entry.Head ∷ u) (sym (append_assoc (map entry.Event m.events) (map entry.State m.states) (entry.Output port ∷ []))),
-      l.1,
-    )
-pushed section.States t m (entry.Ready address) l h =
-    let same : section.Registers ≡ t = cc h in
-    subst (λ u. Pushed u m (entry.Ready address) (so_far section.States m)) same (
-      ap (λ os. entry.Head ∷ (map entry.Event m.events ++ (map entry.State m.states ++ (map entry.Output os ++ (entry.Ready address ∷ map entry.Regs m.regs))))) l.0
-          ∙ ap (λ rs. entry.Head ∷ (map entry.Event m.events ++ (map entry.State m.states ++ (entry.Ready address ∷ map entry.Regs rs)))) l.1
-          ∙ ap (λ u. entry.Head ∷ u) (sym (append_assoc (map entry.Event m.events) (map entry.State m.states) (entry.Ready address ∷ []))),
-      tt,
-    )
-pushed section.Outputs t m (entry.Output port) l h =
-    let same : section.Outputs ≡ t = cc h in subst (λ u. Pushed u m (entry.Output port) (so_far section.Outputs m)) same (simp (map-append, append_assoc), l)
-pushed section.Outputs t m (entry.Ready address) l h =
-    let same : section.Registers ≡ t = cc h in
-    subst (λ u. Pushed u m (entry.Ready address) (so_far section.Outputs m)) same (
-      ap (λ rs. entry.Head ∷ (map entry.Event m.events ++ (map entry.State m.states ++ (map entry.Output m.outputs ++ (entry.Ready address ∷ map entry.Regs rs))))) l ∙ simp append_assoc,
-      tt,
-    )
-pushed section.Registers t m (entry.Regs r) l h =
-    let same : section.Registers ≡ t = cc h in subst (λ u. Pushed u m (entry.Regs r) (so_far section.Registers m)) same (simp (map-append, append_assoc), tt)
-pushed section.Registers t m (entry.Report r) l h =
-    let same : section.End ≡ t = cc h in subst (λ u. Pushed u m (entry.Report r) (so_far section.Registers m)) same (simp append_assoc, tt)
+pushed section.Start t m entry.Head l h = placed section.Events t m entry.Head [] h (simp l.0, (l.1, l.2, l.3, l.4))
+pushed section.Events t m (entry.Event e) l h = placed section.Events t m (entry.Event e) (so_far section.Events m) h (simp map-append, l)
+pushed section.Events t m (entry.State s) l h = placed section.States t m (entry.State s) (so_far section.Events m) h (simp l.0, (l.1, l.2, l.3))
+pushed section.Events t m (entry.Output port) l h = placed section.Outputs t m (entry.Output port) (so_far section.Events m) h (simp (l.0, l.1), (l.2, l.3))
+pushed section.Events t m (entry.Sample s) l h = placed section.Samples t m (entry.Sample s) (so_far section.Events m) h (simp (l.0, l.1, l.2), l.3)
+pushed section.Events t m (entry.Ready address) l h = placed section.Registers t m (entry.Ready address) (so_far section.Events m) h (simp (l.0, l.1, l.2, l.3), tt)
+pushed section.States t m (entry.State s) l h = placed section.States t m (entry.State s) (so_far section.States m) h (simp (map-append, append_assoc), l)
+pushed section.States t m (entry.Output port) l h = placed section.Outputs t m (entry.Output port) (so_far section.States m) h (simp (l.0, append_assoc), (l.1, l.2))
+pushed section.States t m (entry.Sample s) l h = placed section.Samples t m (entry.Sample s) (so_far section.States m) h (simp (l.0, l.1, append_assoc), l.2)
+pushed section.States t m (entry.Ready address) l h = placed section.Registers t m (entry.Ready address) (so_far section.States m) h (simp (l.0, l.1, l.2, append_assoc), tt)
+pushed section.Outputs t m (entry.Output port) l h = placed section.Outputs t m (entry.Output port) (so_far section.Outputs m) h (simp (map-append, append_assoc), l)
+pushed section.Outputs t m (entry.Sample s) l h = placed section.Samples t m (entry.Sample s) (so_far section.Outputs m) h (simp (l.0, append_assoc), l.1)
+pushed section.Outputs t m (entry.Ready address) l h = placed section.Registers t m (entry.Ready address) (so_far section.Outputs m) h (simp (l.0, l.1, append_assoc), tt)
+pushed section.Samples t m (entry.Sample s) l h = placed section.Samples t m (entry.Sample s) (so_far section.Samples m) h (simp (map-append, append_assoc), l)
+pushed section.Samples t m (entry.Ready address) l h = placed section.Registers t m (entry.Ready address) (so_far section.Samples m) h (simp (l, append_assoc), tt)
+pushed section.Registers t m (entry.Regs r) l h = placed section.Registers t m (entry.Regs r) (so_far section.Registers m) h (simp (map-append, append_assoc), tt)
+pushed section.Registers t m (entry.Report r) l h = placed section.End t m (entry.Report r) (so_far section.Registers m) h (simp append_assoc, tt)
 pushed s t m e l h = absurd (cc h)
 
 events_with : (m : Map) (e : Entry) → m.events ++ filter_map event_in (e ∷ []) ≡ (with_entry m e).events
@@ -237,16 +252,20 @@ outputs_with : (m : Map) (e : Entry) → m.outputs ++ filter_map output_in (e �
 outputs_with m (entry.Output port) = refl
 outputs_with m e = append-nil m.outputs
 
+samples_with : (m : Map) (e : Entry) → m.samples ++ filter_map sample_in (e ∷ []) ≡ (with_entry m e).samples
+samples_with m (entry.Sample s) = refl
+samples_with m e = append-nil m.samples
+
 ranges_with : (m : Map) (e : Entry) → m.regs ++ filter_map range_in (e ∷ []) ≡ (with_entry m e).regs
 ranges_with m (entry.Regs r) = refl
 ranges_with m e = append-nil m.regs
 
-lowest_same : (m : Map) (e : Entry) → lowest_with (lowest_behind 0 m.regs) e ≡ lowest_behind 0 (with_entry m e).regs
+lowest_same : (m : Map) (e : Entry) → lowest_with (lowest_after 0 m.regs) e ≡ lowest_after 0 (with_entry m e).regs
 lowest_same m (entry.Regs r) = sym (lowest_push 0 m.regs r)
 lowest_same m e = refl
 
 -- The rules with one more entry, which the draft admits.
-rules_with : (d : Draft) (e : Entry) → IsMap d.map → d.lowest ≡ lowest_behind 0 d.map.regs → IsEntry e → admits d e ≡ true → IsMap (with_entry d.map e)
+rules_with : (d : Draft) (e : Entry) → IsMap d.map → d.lowest ≡ lowest_after 0 d.map.regs → IsEntry e → admits d e ≡ true → IsMap (with_entry d.map e)
 rules_with d entry.Head h low v a = h
 rules_with d (entry.Event e) h low v a =
     let (room, new) = and_parts (nat_lt (length d.map.events) 11) (list_all (λ other. events_differ other e) d.map.events) a in
@@ -255,7 +274,8 @@ rules_with d (entry.Event e) h low v a =
     let names = differ_push (λ (x : MapEvent). x.name) d.map.events e h.event_names apart.0 in
     let sources = differ_push (λ (x : MapEvent). x.source) d.map.events e h.sources apart.1 in
     let limit : length (d.map.events ++ e ∷ []) ≤ 11 = omega (arith, length-append d.map.events (e ∷ []), ltb-true (length d.map.events) 11 room) in
-    assumption (events, names, sources, limit)
+    let samples = samples_more d.map.events e d.map.samples h.samples in
+    assumption (events, names, sources, limit, samples)
 rules_with d (entry.State s) h low v a =
     let (room, new) = and_parts (nat_lt (length d.map.states) 128) (list_all (λ other. states_differ other s) d.map.states) a in
     let states = all_append IsState d.map.states (s ∷ []) h.states (v, tt) in
@@ -266,10 +286,15 @@ rules_with d (entry.Output port) h low v a =
     let outputs = all_append (λ p. p < 5) d.map.outputs (port ∷ []) h.outputs (v, tt) in
     let limit : length (d.map.outputs ++ port ∷ []) ≤ 5 = omega (arith, length-append d.map.outputs (port ∷ []), ltb-true (length d.map.outputs) 5 a) in
     assumption (outputs, limit)
+rules_with d (entry.Sample s) h low v a =
+    let (known, new) = and_parts (names_event d.map.events s.event) (list_all (λ other. samples_differ other s) d.map.samples) a in
+    let samples = all_append (IsSample d.map.events) d.map.samples (s ∷ []) h.samples (record { event = known; input = v.input; at = v.at }, tt) in
+    let pairs = differ_push pair d.map.samples s h.sample_pairs (samples_apart d.map.samples s new) in
+    assumption (samples, pairs)
 rules_with d (entry.Ready address) h low v a = assumption (v)
 rules_with d (entry.Regs r) h low v a =
-    let behind = subst (λ n. n ≤ r.from) low (leb-true d.lowest r.from a) in
-    let ranges = rise_push 0 d.map.regs r h.ranges behind v in
+    let above = subst (λ n. n ≤ r.from) low (leb-true d.lowest r.from a) in
+    let ranges = rise_push 0 d.map.regs r h.ranges above v in
     assumption (ranges)
 rules_with d (entry.Report r) h low v a = assumption (v)
 
@@ -284,6 +309,7 @@ drafted xs d t e h v a after =
       events = filter_map-append event_in xs (e ∷ []) ∙ ap (λ u. u ++ filter_map event_in (e ∷ [])) h.events ∙ events_with d.map e;
       states = filter_map-append state_in xs (e ∷ []) ∙ ap (λ u. u ++ filter_map state_in (e ∷ [])) h.states ∙ states_with d.map e;
       outputs = filter_map-append output_in xs (e ∷ []) ∙ ap (λ u. u ++ filter_map output_in (e ∷ [])) h.outputs ∙ outputs_with d.map e;
+      samples = filter_map-append sample_in xs (e ∷ []) ∙ ap (λ u. u ++ filter_map sample_in (e ∷ [])) h.samples ∙ samples_with d.map e;
       ranges = filter_map-append range_in xs (e ∷ []) ∙ ap (λ u. u ++ filter_map range_in (e ∷ [])) h.ranges ∙ ranges_with d.map e;
       lowest = ap (λ n. lowest_with n e) h.lowest ∙ lowest_same d.map e;
       later = next.1;
@@ -302,26 +328,36 @@ admitted m xs more d entry.Head rules same h = refl
 admitted m xs more d (entry.Ready address) rules same h = refl
 admitted m xs more d (entry.Report r) rules same h = refl
 admitted m xs more d (entry.Event e) rules same h =
-    let behind = filter_map event_in more in
-    let all : m.events ≡ d.map.events ++ (e ∷ behind) = sym (events_of m) ∙ ap (filter_map event_in) same ∙ filter_map-append event_in xs (entry.Event e ∷ more) ∙ ap (λ u. u ++ (e ∷ behind)) h.events in
-    let names = differ_front (λ (x : MapEvent). x.name) d.map.events e behind (subst (AllDiffer (λ (x : MapEvent). x.name)) all rules.event_names) in
-    let sources = differ_front (λ (x : MapEvent). x.source) d.map.events e behind (subst (AllDiffer (λ (x : MapEvent). x.source)) all rules.sources) in
-    let room : length d.map.events < 11 = omega (arith, rules.event_limit, ap length all, length-append d.map.events (e ∷ behind)) in
+    let later = filter_map event_in more in
+    let all : m.events ≡ d.map.events ++ (e ∷ later) = sym (events_of m) ∙ ap (filter_map event_in) same ∙ filter_map-append event_in xs (entry.Event e ∷ more) ∙ ap (λ u. u ++ (e ∷ later)) h.events in
+    let names = differ_front (λ (x : MapEvent). x.name) d.map.events e later (subst (AllDiffer (λ (x : MapEvent). x.name)) all rules.event_names) in
+    let sources = differ_front (λ (x : MapEvent). x.source) d.map.events e later (subst (AllDiffer (λ (x : MapEvent). x.source)) all rules.sources) in
+    let room : length d.map.events < 11 = omega (arith, rules.event_limit, ap length all, length-append d.map.events (e ∷ later)) in
     and_from (nat_lt (length d.map.events) 11) (list_all (λ other. events_differ other e) d.map.events) (lt-ltb (length d.map.events) 11 room) (events_pass d.map.events e names sources)
 admitted m xs more d (entry.State s) rules same h =
-    let behind = filter_map state_in more in
-    let all : m.states ≡ d.map.states ++ (s ∷ behind) = sym (states_of m) ∙ ap (filter_map state_in) same ∙ filter_map-append state_in xs (entry.State s ∷ more) ∙ ap (λ u. u ++ (s ∷ behind)) h.states in
-    let names = differ_front (λ (x : MapState). x.name) d.map.states s behind (subst (AllDiffer (λ (x : MapState). x.name)) all rules.state_names) in
-    let room : length d.map.states < 128 = omega (arith, rules.state_limit, ap length all, length-append d.map.states (s ∷ behind)) in
+    let later = filter_map state_in more in
+    let all : m.states ≡ d.map.states ++ (s ∷ later) = sym (states_of m) ∙ ap (filter_map state_in) same ∙ filter_map-append state_in xs (entry.State s ∷ more) ∙ ap (λ u. u ++ (s ∷ later)) h.states in
+    let names = differ_front (λ (x : MapState). x.name) d.map.states s later (subst (AllDiffer (λ (x : MapState). x.name)) all rules.state_names) in
+    let room : length d.map.states < 128 = omega (arith, rules.state_limit, ap length all, length-append d.map.states (s ∷ later)) in
     and_from (nat_lt (length d.map.states) 128) (list_all (λ other. states_differ other s) d.map.states) (lt-ltb (length d.map.states) 128 room) (states_pass d.map.states s names)
 admitted m xs more d (entry.Output port) rules same h =
-    let behind = filter_map output_in more in
-    let all : m.outputs ≡ d.map.outputs ++ (port ∷ behind) = sym (outputs_of m) ∙ ap (filter_map output_in) same ∙ filter_map-append output_in xs (entry.Output port ∷ more) ∙ ap (λ u. u ++ (port ∷ behind)) h.outputs in
-    lt-ltb (length d.map.outputs) 5 (omega (arith, rules.output_limit, ap length all, length-append d.map.outputs (port ∷ behind)))
+    let later = filter_map output_in more in
+    let all : m.outputs ≡ d.map.outputs ++ (port ∷ later) = sym (outputs_of m) ∙ ap (filter_map output_in) same ∙ filter_map-append output_in xs (entry.Output port ∷ more) ∙ ap (λ u. u ++ (port ∷ later)) h.outputs in
+    lt-ltb (length d.map.outputs) 5 (omega (arith, rules.output_limit, ap length all, length-append d.map.outputs (port ∷ later)))
+admitted m xs more d (entry.Sample s) rules same h =
+    let later = filter_map sample_in more in
+    let all : m.samples ≡ d.map.samples ++ (s ∷ later) = sym (samples_of m) ∙ ap (filter_map sample_in) same ∙ filter_map-append sample_in xs (entry.Sample s ∷ more) ∙ ap (λ u. u ++ (s ∷ later)) h.samples in
+    let events : m.events ≡ d.map.events =
+        sym (events_of m) ∙ ap (filter_map event_in) same ∙ filter_map-append event_in xs (entry.Sample s ∷ more)
+        ∙ ap (λ u. filter_map event_in xs ++ u) (no_event_after_sample m d.section xs more s h.reached same) ∙ append-nil (filter_map event_in xs) ∙ h.events in
+    let pairs = differ_front pair d.map.samples s later (subst (AllDiffer pair) all rules.sample_pairs) in
+    let fits = all_front (IsSample m.events) d.map.samples s later (subst (AllByRecursion (IsSample m.events)) all rules.samples) in
+    let known = subst (λ es. names_event es s.event ≡ true) events fits.event in
+    and_from (names_event d.map.events s.event) (list_all (λ other. samples_differ other s) d.map.samples) known (samples_pass d.map.samples s pairs)
 admitted m xs more d (entry.Regs r) rules same h =
-    let behind = filter_map range_in more in
-    let all : m.regs ≡ d.map.regs ++ (r ∷ behind) = sym (ranges_of m) ∙ ap (filter_map range_in) same ∙ filter_map-append range_in xs (entry.Regs r ∷ more) ∙ ap (λ u. u ++ (r ∷ behind)) h.ranges in
-    le-leb d.lowest r.from (subst (λ n. n ≤ r.from) (sym h.lowest) (rise_front 0 d.map.regs r behind (subst (RangesRise 0) all rules.ranges)))
+    let later = filter_map range_in more in
+    let all : m.regs ≡ d.map.regs ++ (r ∷ later) = sym (ranges_of m) ∙ ap (filter_map range_in) same ∙ filter_map-append range_in xs (entry.Regs r ∷ more) ∙ ap (λ u. u ++ (r ∷ later)) h.ranges in
+    le-leb d.lowest r.from (subst (λ n. n ≤ r.from) (sym h.lowest) (rise_front 0 d.map.regs r later (subst (RangesRise 0) all rules.ranges)))
 
 -- An entry that the draft doesn't admit stands next in no map's row.
 pub draft_refuses : (m : Map) (xs more : List Entry) (d d' : Draft) (e : Entry) → IsMap m → IsDraft xs d → Added d e false d' → entries_of m ≢ xs ++ (e ∷ more)

@@ -20,6 +20,7 @@ use Rattle.pic_isa.specs.Names.{name_of_port}
 use Rattle.pic_isa.proofs.UniqueNameLaws.{one_source, one_port}
 use Rattle.map_file.specs.declared.maps.MapEvent.{MapEvent}
 use Rattle.map_file.specs.declared.maps.MapState.{MapState}
+use Rattle.map_file.specs.declared.maps.MapSample.{MapSample}
 use Rattle.map_file.specs.declared.maps.Range.{Range}
 use Rattle.map_file.specs.declared.entries.Report.{Report as Reports}
 use Rattle.map_file.specs.declared.entries.Entry.{Entry}
@@ -27,7 +28,7 @@ use Rattle.map_file.specs.declared.entries.Entry.TheVariants as entry
 use Rattle.map_file.specs.MapRules.{IsEvent, IsState, AddressesFit}
 use Rattle.map_file.specs.MapText.{addresses}
 use Rattle.map_file.specs.MapFaults.{IsWholeLine}
-use Rattle.map_file.specs.Entries.{event_fields, state_fields, range_field, report_fields, fields_of, line_of, IsEntry, IsRange, IsReport}
+use Rattle.map_file.specs.Entries.{event_fields, state_fields, sample_fields, range_field, report_fields, fields_of, line_of, IsEntry, IsRange, IsReport, IsSampleLine}
 use Rattle.map_file.proofs.FieldCutFacts.{is_visible, AllVisible, line_whole}
 
 -- Each byte of a field is above the space.
@@ -112,6 +113,7 @@ fields_visible (entry.Event e) h =
     (refl, (name_visible e.name h.name, (source_visible e.source, (decimal_visible e.priority (omega (arith, h.priority.1)), (refl, (hex4_visible e.«open», (refl, (hex4_visible e.commit, tt))))))))
 fields_visible (entry.State s) h = (refl, (name_visible s.name h.name, (type_visible s.ty, addresses_visible s.ty s.low s.high)))
 fields_visible (entry.Output port) h = (refl, (port_visible port, tt))
+fields_visible (entry.Sample s) h = (refl, (name_visible s.event h.event, (name_visible s.input h.input, (hex4_visible s.at, tt))))
 fields_visible (entry.Ready address) h = (refl, (hex4_visible address, tt))
 fields_visible (entry.Regs r) h = (refl, (range_visible r, tt))
 fields_visible (entry.Report r) h = (
@@ -125,7 +127,7 @@ entry_whole e h = line_whole (fields_of e) (fields_visible e h)
 -- The fields of an entry tell the entry.
 
 abbrev kinds : List (List ℕ × ℕ)
-kinds = (codes "efrp", 0) ∷ (codes "event", 1) ∷ (codes "state", 2) ∷ (codes "output", 3) ∷ (codes "ready", 4) ∷ (codes "regs", 5) ∷ (codes "report", 6) ∷ []
+kinds = (codes "efrp", 0) ∷ (codes "event", 1) ∷ (codes "state", 2) ∷ (codes "output", 3) ∷ (codes "sample", 4) ∷ (codes "ready", 5) ∷ (codes "regs", 6) ∷ (codes "report", 7) ∷ []
 
 abbrev kind_in : List (List ℕ) → Option ℕ
 kind_in [] = None
@@ -136,15 +138,17 @@ kind_of entry.Head = 0
 kind_of (entry.Event e) = 1
 kind_of (entry.State s) = 2
 kind_of (entry.Output port) = 3
-kind_of (entry.Ready address) = 4
-kind_of (entry.Regs r) = 5
-kind_of (entry.Report r) = 6
+kind_of (entry.Sample s) = 4
+kind_of (entry.Ready address) = 5
+kind_of (entry.Regs r) = 6
+kind_of (entry.Report r) = 7
 
 kind_told : (e : Entry) → kind_in (fields_of e) ≡ Some (kind_of e)
 kind_told entry.Head = refl
 kind_told (entry.Event e) = refl
 kind_told (entry.State s) = refl
 kind_told (entry.Output port) = refl
+kind_told (entry.Sample s) = refl
 kind_told (entry.Ready address) = refl
 kind_told (entry.Regs r) = refl
 kind_told (entry.Report r) = refl
@@ -202,10 +206,17 @@ one_state : (s t : MapState) → IsState s → IsState t → state_fields s ≡ 
 one_state s t h k q =
     let name : s.name ≡ t.name = cc in
     let ty' = one_type s.ty t.ty (cc) in
-    let behind : addresses s.ty s.low s.high ≡ addresses t.ty t.low t.high = cc in
+    let places : addresses s.ty s.low s.high ≡ addresses t.ty t.low t.high = cc in
     let fits = subst (λ u. AddressesFit u t.low t.high) (sym ty') k.addresses in
-    let same = one_place s.ty s.low s.high t.low t.high h.addresses fits (behind ∙ ap (λ u. addresses u t.low t.high) (sym ty')) in
+    let same = one_place s.ty s.low s.high t.low t.high h.addresses fits (places ∙ ap (λ u. addresses u t.low t.high) (sym ty')) in
     λ i. record { name = name i; ty = ty' i; low = same.0 i; high = same.1 i }
+
+one_sample : (s t : MapSample) → IsSampleLine s → IsSampleLine t → sample_fields s ≡ sample_fields t → s ≡ t
+one_sample s t h k e =
+    let event : s.event ≡ t.event = cc in
+    let input : s.input ≡ t.input = cc in
+    let at = one_hex4 s.at t.at h.at k.at (cc) in
+    λ i. record { event = event i; input = input i; at = at i }
 
 one_range : (r s : Range) → IsRange r → IsRange s → range_field r ≡ range_field s → r ≡ s
 one_range r s h k e =
@@ -223,17 +234,18 @@ one_report r s h k e =
     let settle = decimal_injective r.settle s.settle (omega (arith, h.settle)) (omega (arith, k.settle)) (cc) in
     λ i. record { depth = depth i; ram = ram i; words = words i; settle = settle i }
 
-behind_word : (word word' : List ℕ) (fields fields' : List (List ℕ)) → word ∷ fields ≡ word' ∷ fields' → fields ≡ fields'
-behind_word word word' fields fields' e = cc
+after_word : (word word' : List ℕ) (fields fields' : List (List ℕ)) → word ∷ fields ≡ word' ∷ fields' → fields ≡ fields'
+after_word word word' fields fields' e = cc
 
 one_kinded : (e d : Entry) → kind_of e ≡ kind_of d → IsEntry e → IsEntry d → fields_of e ≡ fields_of d → e ≡ d
 one_kinded entry.Head entry.Head k h w q = refl
-one_kinded (entry.Event e) (entry.Event d) k h w q = ap entry.Event (one_event e d h w (behind_word _ _ _ _ q))
-one_kinded (entry.State s) (entry.State t) k h w q = ap entry.State (one_state s t h w (behind_word _ _ _ _ q))
+one_kinded (entry.Event e) (entry.Event d) k h w q = ap entry.Event (one_event e d h w (after_word _ _ _ _ q))
+one_kinded (entry.State s) (entry.State t) k h w q = ap entry.State (one_state s t h w (after_word _ _ _ _ q))
 one_kinded (entry.Output p) (entry.Output r) k h w q = let name : name_of_port p ≡ name_of_port r = cc in ap entry.Output (one_port p r h w name)
+one_kinded (entry.Sample s) (entry.Sample t) k h w q = ap entry.Sample (one_sample s t h w (after_word _ _ _ _ q))
 one_kinded (entry.Ready a) (entry.Ready b) k h w q = let field : hex4 a ≡ hex4 b = cc in ap entry.Ready (one_hex4 a b h w field)
 one_kinded (entry.Regs r) (entry.Regs s) k h w q = let field : range_field r ≡ range_field s = cc in ap entry.Regs (one_range r s h w field)
-one_kinded (entry.Report r) (entry.Report s) k h w q = ap entry.Report (one_report r s h w (behind_word _ _ _ _ q))
+one_kinded (entry.Report r) (entry.Report s) k h w q = ap entry.Report (one_report r s h w (after_word _ _ _ _ q))
 one_kinded e d k h w q = absurd (omega arith)
 
 pub one_entry : (e d : Entry) → IsEntry e → IsEntry d → fields_of e ≡ fields_of d → e ≡ d

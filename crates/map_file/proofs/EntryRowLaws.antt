@@ -1,18 +1,23 @@
 -- The lines of entries in a row: they are cut in one way, and a map's text is the row of its entries' lines.
-use Rattle.std.proofs.Common.{◌≡◌, ◌≢◌, ℕ, ◌+◌, List, [], ◌∷◌, ◌++◌, map, codes, refl, sym, ap, ◌∙◌}
+use Rattle.std.proofs.Common.{◌≡◌, ◌≢◌, ℕ, ◌+◌, Bool, true, false, ◌||◌, List, [], ◌∷◌, ◌++◌, map, codes, refl, sym, ap, subst, ◌∙◌}
 use Rattle.std.specs.List.{flat_map, concat, AllByRecursion}
+use Rattle.std.specs.Str.{bytes_eq}
+use Rattle.std.proofs.lemmas.Slice.Eq.{bytes_eq-Decides}
 use Rattle.std.proofs.lemmas.List.{append_assoc, append-nil}
 use Rattle.std.proofs.lemmas.List.Concat.{concat_is}
 use Rattle.std.proofs.lemmas.List.Folds.{flat_map-map}
 use Rattle.std.proofs.lemmas.Grind.{flat_map-append}
+use Rattle.frp_tree.specs.Names.{is_name}
+use Rattle.map_file.specs.declared.maps.MapEvent.{MapEvent}
+use Rattle.map_file.specs.declared.maps.MapSample.{MapSample}
 use Rattle.map_file.specs.declared.maps.Range.{Range}
 use Rattle.map_file.specs.declared.maps.Map.{Map}
 use Rattle.map_file.specs.declared.entries.Entry.{Entry}
 use Rattle.map_file.specs.declared.entries.Entry.TheVariants as entry
-use Rattle.map_file.specs.MapRules.{IsMap, RangesRise}
+use Rattle.map_file.specs.MapRules.{IsMap, IsEvent, IsSample, RangesRise, names_event}
 use Rattle.map_file.specs.MapText.{line, map_text}
 use Rattle.map_file.specs.MapFaults.{IsWholeLine}
-use Rattle.map_file.specs.Entries.{line_of, fields_of, IsEntry, IsRange, entries_of, report_of}
+use Rattle.map_file.specs.Entries.{line_of, fields_of, IsEntry, IsRange, IsSampleLine, entries_of, report_of}
 use Rattle.map_file.specs.FieldWords.{fields_in}
 use Rattle.map_file.proofs.EntryOrderFacts.{one_map}
 use Rattle.map_file.proofs.WholeLineFacts.{one_line, line_some}
@@ -30,6 +35,7 @@ some_field entry.Head h = cc
 some_field (entry.Event e) h = cc
 some_field (entry.State s) h = cc
 some_field (entry.Output port) h = cc
+some_field (entry.Sample s) h = cc
 some_field (entry.Ready address) h = cc
 some_field (entry.Regs r) h = cc
 some_field (entry.Report r) h = cc
@@ -72,11 +78,24 @@ ranges_valid : (low : ℕ) (rs : List Range) → RangesRise low rs → AllByRecu
 ranges_valid low [] h = tt
 ranges_valid low (r ∷ rs) h = ((h.1, h.2), ranges_valid (r.to + 2) rs h.3)
 
+-- The events' names have the form of names, and so have the samples' events.
+named_is_name : (es : List MapEvent) (name : List ℕ) → AllByRecursion IsEvent es → names_event es name ≡ true → is_name name ≡ true
+named_is_name [] name h k = cc
+named_is_name (e ∷ es) name h k = go (bytes_eq e.name name) refl (named_is_name es name h.1) k
+  where
+    go : (t : Bool) → bytes_eq e.name name ≡ t → (names_event es name ≡ true → is_name name ≡ true) → (t || names_event es name) ≡ true → is_name name ≡ true
+    go true same rest found = subst (λ n. is_name n ≡ true) ((bytes_eq-Decides e.name name).0 same) h.0.name
+    go false same rest found = rest found
+
+samples_valid : (es : List MapEvent) (ss : List MapSample) → AllByRecursion IsEvent es → AllByRecursion (IsSample es) ss → AllByRecursion IsSampleLine ss
+samples_valid es [] h k = tt
+samples_valid es (s ∷ ss) h k = (record { event = named_is_name es s.event h k.0.event; input = k.0.input; at = k.0.at }, samples_valid es ss h k.1)
+
 pub row_valid : (m : Map) → IsMap m → AreEntries (entries_of m)
 row_valid m h =
     let last : AreEntries (map entry.Regs m.regs ++ (entry.Report (report_of m) ∷ [])) =
     all_append IsEntry (map entry.Regs m.regs) (entry.Report (report_of m) ∷ []) (all_map entry.Regs m.regs (ranges_valid 0 m.regs h.ranges)) (record { depth = h.depth; ram = h.ram; words = h.words; settle = h.settle }, tt) in
-    (tt, all_append IsEntry _ _ (all_map entry.Event m.events h.events) (all_append IsEntry _ _ (all_map entry.State m.states h.states) (all_append IsEntry _ _ (all_map entry.Output m.outputs h.outputs) (h.ready, last))))
+    (tt, all_append IsEntry _ _ (all_map entry.Event m.events h.events) (all_append IsEntry _ _ (all_map entry.State m.states h.states) (all_append IsEntry _ _ (all_map entry.Output m.outputs h.outputs) (all_append IsEntry _ _ (all_map entry.Sample m.samples (samples_valid m.events m.samples h.events h.samples)) (h.ready, last)))))
 
 pub rows_lines : (es : List Entry) → concat (map line_of es) ≡ text_of es
 rows_lines es = concat_is (map line_of es) ∙ flat_map-map (λ x. x) line_of es

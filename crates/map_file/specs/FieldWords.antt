@@ -1,3 +1,4 @@
+-- The fields of a line, and the form of a decimal number.
 use Rattle.std.specs.Prelude.{ℕ, ◌==◌, Bool, true, not, ◌&&◌, ◌||◌, length, List, [], ◌∷◌, Option, Some, None}
 use Rattle.std.specs.Borrow.{Bor}
 use Rattle.std.specs.List.{slice_split}
@@ -15,7 +16,7 @@ fields_in_rest (Some rest) = fields_in rest.now
 abbrev pub left : Fields → List (List ℕ)
 left fields = fields_in_rest fields.rest
 
--- Neither a sign nor, before another byte, a zero stands at the front.
+-- It begins neither with a sign nor, where another byte follows, with a zero.
 abbrev pub is_plain : List ℕ → Bool
 is_plain [] = true
 is_plain (b ∷ bs) = not (b == 43) && (not (b == 48) || length bs == 0)

@@ -1,3 +1,4 @@
+-- Which bytes are a map's text, and which line of other bytes is the first faulty one.
 use Rattle.std.specs.Prelude.{◌≡◌, ◌≢◌, ℕ, ◌+◌, List, ◌++◌, length, codes, Result, Ok, Err}
 use Rattle.std.specs.List.{AllByRecursion, concat}
 use Rattle.map_file.specs.declared.maps.Map.{Map}
@@ -13,11 +14,11 @@ pub record IsMapText (bytes : List ℕ) : Type 0 where
   pub text : bytes ≡ map_text map
 
 -- Some map's text begins with these bytes.
-pub record Begins (front : List ℕ) : Type 0 where
+pub record Begins (prefix : List ℕ) : Type 0 where
   pub map : Map
   pub rules : IsMap map
   pub rest : List ℕ
-  pub text : map_text map ≡ front ++ rest
+  pub text : map_text map ≡ prefix ++ rest
 
 -- No LF is among the bytes.
 abbrev pub HasNoEnd : List ℕ → Type 0
@@ -30,7 +31,7 @@ pub record IsWholeLine (line : List ℕ) : Type 0 where
   pub one : HasNoEnd body
 
 -- Line n, counted from 1, is the first that isn't in the form at its place. The bytes are no map's text. Before
--- line n stand whole lines with which some map's text begins, and no whole line stands next with which, behind
+-- line n stand whole lines with which some map's text begins, and no whole line stands next with which, after
 -- these, a map's text begins: so a line that is missing or that lacks its LF is faulty too.
 pub record FirstFaulty (bytes : List ℕ) (n : ℕ) : Type 0 where
   pub lines : List (List ℕ)
@@ -39,15 +40,15 @@ pub record FirstFaulty (bytes : List ℕ) (n : ℕ) : Type 0 where
   pub whole : AllByRecursion IsWholeLine lines
   pub number : n ≡ length lines + 1
   pub begins : Begins (concat lines)
-  pub refused : (line behind : List ℕ) → IsWholeLine line → rest ≡ line ++ behind → Begins (concat lines ++ line) → ⊥
+  pub refused : (line after : List ℕ) → IsWholeLine line → rest ≡ line ++ after → Begins (concat lines ++ line) → ⊥
   pub no_text : IsMapText bytes → ⊥
 
--- The fault is the bytes' first faulty line, or want of memory.
+-- The fault is the bytes' first faulty line, or out of memory.
 abbrev pub IsFaultOf : List ℕ → MapFault → Type 0
 IsFaultOf bytes (Line n) = FirstFaulty bytes n
 IsFaultOf bytes Memory = Unit {0}
 
--- The answer is this map, or want of memory.
+-- The answer is this map, or out of memory.
 abbrev pub IsReadAs : Map → Result Map MapFault → Type 0
 IsReadAs map (Ok found) = found ≡ map
 IsReadAs map (Err fault) = fault ≡ Memory

@@ -1,3 +1,4 @@
+-- The text of a map, line by line.
 use Rattle.std.specs.Prelude.{ℕ, List, [], ◌∷◌, ◌++◌, codes}
 use Rattle.std.specs.List.{flat_map}
 use Rattle.std.specs.Fmt.{decimal}
@@ -9,6 +10,7 @@ use Rattle.pic_isa.specs.Sources.{source_name}
 use Rattle.pic_isa.specs.Names.{name_of_port}
 use Rattle.map_file.specs.declared.maps.MapEvent.{MapEvent}
 use Rattle.map_file.specs.declared.maps.MapState.{MapState}
+use Rattle.map_file.specs.declared.maps.MapSample.{MapSample}
 use Rattle.map_file.specs.declared.maps.Range.{Range}
 use Rattle.map_file.specs.declared.maps.Map.{Map}
 
@@ -33,6 +35,9 @@ state_line s = line (codes "state" ∷ s.name ∷ type_name s.ty ∷ addresses s
 abbrev pub output_line : ℕ → List ℕ
 output_line port = line (codes "output" ∷ name_of_port port ∷ [])
 
+abbrev pub sample_line : MapSample → List ℕ
+sample_line s = line (codes "sample" ∷ s.event ∷ s.input ∷ hex4 s.at ∷ [])
+
 abbrev pub range_line : Range → List ℕ
 range_line r = line (codes "regs" ∷ (hex3 r.from ++ codes "-" ++ hex3 r.to) ∷ [])
 
@@ -40,13 +45,14 @@ abbrev pub report_line : Map → List ℕ
 report_line m =
     line (codes "report" ∷ codes "depth" ∷ decimal m.depth ∷ codes "ram" ∷ decimal m.ram ∷ codes "words" ∷ decimal m.words ∷ codes "settle" ∷ decimal m.settle ∷ [])
 
--- The text of a map: events, states, outputs, the ready address, the registers and the report, in this order.
+-- The text of a map: events, states, outputs, samples, the ready address, the registers and the report, in this order.
 abbrev pub map_text : Map → List ℕ
 map_text m =
     line (codes "efrp" ∷ codes "map" ∷ codes "1" ∷ [])
     ++ (flat_map event_line m.events
     ++ (flat_map state_line m.states
     ++ (flat_map output_line m.outputs
+    ++ (flat_map sample_line m.samples
     ++ (line (codes "ready" ∷ hex4 m.ready ∷ [])
     ++ (flat_map range_line m.regs
-    ++ report_line m)))))
+    ++ report_line m))))))

@@ -1,3 +1,4 @@
+// The draft of a map, while its lines are read.
 use crate::entries::Section;
 use crate::maps::Map;
 

@@ -1,7 +1,8 @@
+// What one line of a map states, and the order of such lines.
 ghost use Rattle.std.specs.Prelude.{◌≡◌};
 ghost use Rattle.map_file.specs.Entries.{section_after};
 
-use crate::maps::{MapEvent, MapState, Range};
+use crate::maps::{MapEvent, MapSample, MapState, Range};
 
 /// The numbers of a map's last line: the greatest depth of the return stack, in places, the bytes of general RAM,
 /// the words of the image, and the steps in which the firmware settles.
@@ -22,6 +23,7 @@ pub enum Entry {
     State(MapState),
     /// A port's number, 0 to 4.
     Output(u8),
+    Sample(MapSample),
     /// The ready address, in words.
     Ready(u16),
     Regs(Range),
@@ -36,14 +38,15 @@ pub enum Section {
     Events,
     States,
     Outputs,
+    Samples,
     /// The ready address has been given.
     Registers,
-    /// Behind the report.
+    /// After the report.
     End,
 }
 
 impl Section {
-    /// The section that the entry belongs to, and None exactly where it can't stand behind this section's.
+    /// The section that the entry belongs to, and None exactly where it can't stand after this section's.
     pub fn after(self, entry: &Entry) -> Option<Section>
         ensures { result ≡ section_after self entry.now }
     {
@@ -54,9 +57,14 @@ impl Section {
             (Section::Events | Section::States | Section::Outputs, Entry::Output(_)) => {
                 Some(Section::Outputs)
             }
-            (Section::Events | Section::States | Section::Outputs, Entry::Ready(_)) => {
-                Some(Section::Registers)
-            }
+            (
+                Section::Events | Section::States | Section::Outputs | Section::Samples,
+                Entry::Sample(_),
+            ) => Some(Section::Samples),
+            (
+                Section::Events | Section::States | Section::Outputs | Section::Samples,
+                Entry::Ready(_),
+            ) => Some(Section::Registers),
             (Section::Registers, Entry::Regs(_)) => Some(Section::Registers),
             (Section::Registers, Entry::Report(_)) => Some(Section::End),
             _ => None,

@@ -1,3 +1,4 @@
+// Why bytes are read as no map.
 use std::alloc::AllocError;
 
 /// Why bytes are read as no map.
@@ -6,7 +7,7 @@ pub enum MapFault {
     /// The first line, counted from 1, that isn't in the form at its place. A line that is missing, or that lacks
     /// its LF, isn't in the form.
     Line(u32),
-    /// Want of memory.
+    /// Out of memory.
     Memory,
 }
 

@@ -1,3 +1,4 @@
+// The fields of a line, one after the other.
 ghost use Rattle.std.specs.Prelude.{◌≡◌, ◌≢◌, ℕ, List, [], ◌∷◌, ◌==◌, MatchOption, position};
 ghost use Rattle.map_file.specs.FieldWords.{left, fields_in};
 
@@ -22,7 +23,7 @@ impl<'a> Fields<'a> {
         Fields { rest: Some(line) }
     }
 
-    /// The first field that is left, and those behind it.
+    /// The first field that is left, and those after it.
     pub fn next(self) -> Option<(&'a [u8], Fields<'a>)>
         ensures { MatchOption result (left self.entry ≡ []) (λ found. left self.entry ≡ found.0.now ∷ left found.1) }
     {
@@ -49,7 +50,7 @@ impl<'a> Fields<'a> {
         }
     }
 
-    /// The fields behind this word, and None where another field stands there.
+    /// The fields after this word, and None where another field stands there.
     pub fn after(self, word: &str) -> Option<Fields<'a>>
         ensures { MatchOption result ((behind : List (List ℕ)) → left self.entry ≢ word.now ∷ behind) (λ behind. left self.entry ≡ word.now ∷ left behind) }
     {

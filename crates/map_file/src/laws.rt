@@ -1,3 +1,4 @@
+// A law of maps and their texts.
 ghost use Rattle.std.specs.Prelude.{◌≡◌};
 ghost use Rattle.map_file.specs.declared.maps.Map.{Map as Maps};
 ghost use Rattle.map_file.specs.MapRules.{IsMap};

@@ -1,5 +1,5 @@
-//! The map of a firmware image: which addresses mean which event, state and register, and the bounds that
-//! the firmware keeps.
+//! The map of a firmware image: which addresses mean which event, state, sampled input and register, and the bounds
+//! that the firmware keeps.
 //!
 //! Contracts see a `Map` as its lists and numbers, and its text as the bytes of a file. `write` gives the one
 //! text of a map, and `read` the one map of a text, or its first faulty line. The compiler, the simulator's trace
@@ -20,6 +20,6 @@ mod writer;
 
 pub use faults::MapFault;
 pub use laws::one_map;
-pub use maps::{Map, MapEvent, MapState, Range};
+pub use maps::{Map, MapEvent, MapSample, MapState, Range};
 pub use reader::read;
 pub use writer::write;

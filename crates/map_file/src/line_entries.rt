@@ -1,3 +1,4 @@
+// What the line of each kind states, from its fields.
 ghost use Rattle.std.specs.Prelude.{◌≡◌, ◌≢◌, ℕ, ◌<◌, ◌≤◌, List, [], ◌∷◌, codes, MatchOption, IfOk, IsTrue, ◌↔◌};
 ghost use Rattle.std.specs.Fmt.{decimal};
 ghost use Rattle.frp_tree.specs.Digits.{hex4};
@@ -7,15 +8,16 @@ ghost use Rattle.map_file.specs.declared.entries.Entry.{Entry as Entries};
 ghost use Rattle.map_file.specs.declared.entries.Report.{Report as Reports};
 ghost use Rattle.map_file.specs.declared.maps.MapEvent.{MapEvent as MapEvents};
 ghost use Rattle.map_file.specs.declared.maps.MapState.{MapState as MapStates};
+ghost use Rattle.map_file.specs.declared.maps.MapSample.{MapSample as MapSamples};
 ghost use Rattle.map_file.specs.declared.maps.Range.{Range as Ranges};
-ghost use Rattle.map_file.specs.Entries.{IsEntry, IsRange, IsReport, IsUnnamed, event_fields, state_fields, range_field, report_fields, fields_of};
+ghost use Rattle.map_file.specs.Entries.{IsEntry, IsRange, IsReport, IsSampleLine, IsUnnamed, event_fields, state_fields, sample_fields, range_field, report_fields, fields_of};
 ghost use Rattle.map_file.specs.FieldWords.{left, fields_in};
 ghost use Rattle.map_file.specs.MapRules.{AddressesFit, IsCode, IsEvent, IsState};
 ghost use Rattle.map_file.specs.MapText.{addresses};
 
 use crate::entries::{Entry, Report};
 use crate::fields::Fields;
-use crate::maps::{MapEvent, MapState, Range};
+use crate::maps::{MapEvent, MapSample, MapState, Range};
 use crate::values::{code_in, data_in, decimal_in, name_in, port_in, range_in, source_in, type_in};
 use frp_tree::{Text, Ty};
 use std::alloc::{AllocError, Global};
@@ -29,7 +31,7 @@ const MOST_RAM: u32 = 352;
 
 const MOST_WORDS: u32 = 8192;
 
-// The name behind this word, and the fields behind both.
+// The name after this word, and the fields after both.
 fn named<'a>(fields: Fields<'a>, word: &str) -> Option<(&'a str, Fields<'a>)>
     ensures { MatchOption result
         ((name : List ℕ) (behind : List (List ℕ)) → IsTrue (is_name name) → left fields.entry ≢ word.now ∷ name ∷ behind)
@@ -62,7 +64,7 @@ fn places(fields: Fields<'_>) -> Option<(u16, u16)>
     Some((open, commit))
 }
 
-// The event of this name that the fields behind it state.
+// The event of this name that the fields after it state.
 fn event_of(name: Text, fields: Fields<'_>) -> Option<MapEvent>
     requires { IsTrue (is_name name) }
     ensures { MatchOption result
@@ -115,7 +117,7 @@ fn addresses(ty: Ty, fields: Fields<'_>) -> Option<(u16, u16)>
     }
 }
 
-// The state of this name that the fields behind it state.
+// The state of this name that the fields after it state.
 fn state_of(name: Text, fields: Fields<'_>) -> Option<MapState>
     requires { IsTrue (is_name name) }
     ensures { MatchOption result
@@ -143,6 +145,32 @@ fn state(alloc: Global, fields: Fields<'_>) -> Result<Option<MapState>, AllocErr
     };
     let name = Text::new(alloc, name)?;
     Ok(state_of(name, behind))
+}
+
+// The event and the input that a sample's line names, and the address.
+fn sampled<'a>(fields: Fields<'a>) -> Option<(&'a str, &'a str, u16)>
+    ensures { MatchOption result
+        ((event input : List ℕ) (at : ℕ) → IsTrue (is_name event) → IsTrue (is_name input) → IsCode at → left fields.entry ≢ codes "sample" ∷ event ∷ input ∷ hex4 at ∷ [])
+        (λ found. IsTrue (is_name found.0.now) × IsTrue (is_name found.1.now) × IsCode found.2 × (left fields.entry ≡ codes "sample" ∷ found.0.now ∷ found.1.now ∷ hex4 found.2 ∷ [])) }
+{
+    let (event, fields) = named(fields, "sample")?;
+    let (input, fields) = fields.next()?;
+    let input = name_in(input)?;
+    let at = code_in(fields.last()?)?;
+    Some((event, input, at))
+}
+
+fn sample(alloc: Global, fields: Fields<'_>) -> Result<Option<MapSample>, AllocError>
+    ensures { IfOk result (λ found. MatchOption found
+        ((s : MapSamples) → IsSampleLine s → left fields.entry ≢ codes "sample" ∷ sample_fields s)
+        (λ s. IsSampleLine s × (left fields.entry ≡ codes "sample" ∷ sample_fields s))) }
+{
+    let Some((event, input, at)) = sampled(fields) else {
+        return Ok(None);
+    };
+    let event = Text::new(alloc, event)?;
+    let input = Text::new(alloc, input)?;
+    Ok(Some(MapSample { event, input, at }))
 }
 
 // Whether the fields are those of a map's first line.
@@ -185,7 +213,7 @@ fn registers(fields: Fields<'_>) -> Option<Range>
     range_in(fields.after("regs")?.last()?)
 }
 
-// The number of at most `most` behind this word, and the fields behind both.
+// The number of at most `most` after this word, and the fields after both.
 fn count_in<'a>(fields: Fields<'a>, word: &str, most: u32) -> Option<(u32, Fields<'a>)>
     ensures { MatchOption result
         ((n : ℕ) (behind : List (List ℕ)) → n ≤ most → left fields.entry ≢ word.now ∷ decimal n ∷ behind)
@@ -237,7 +265,7 @@ fn unnamed(fields: Fields<'_>) -> Option<Entry>
     Some(Entry::Report(report(fields)?))
 }
 
-/// What a line without its LF states, and None where it is no line of a map. An `Err` is want of memory.
+/// What a line without its LF states, and None where it is no line of a map. An `Err` is out of memory.
 pub fn entry_in(alloc: Global, line: &[u8]) -> Result<Option<Entry>, AllocError>
     ensures { IfOk result (λ found. MatchOption found
         ((e : Entries) → IsEntry e → fields_in line.now ≢ fields_of e)
@@ -249,6 +277,9 @@ pub fn entry_in(alloc: Global, line: &[u8]) -> Result<Option<Entry>, AllocError>
     }
     if let Some(state) = state(alloc, fields)? {
         return Ok(Some(Entry::State(state)));
+    }
+    if let Some(sample) = sample(alloc, fields)? {
+        return Ok(Some(Entry::Sample(sample)));
     }
     Ok(unnamed(fields))
 }

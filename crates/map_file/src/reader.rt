@@ -1,3 +1,4 @@
+// Bytes are read as a map, line by line.
 ghost use Rattle.std.specs.Prelude.{◌≡◌, ◌^◌, ◌<◌, ◌++◌, ◌∷◌, length, position, ◌==◌, IfOk, IfErr, MatchOption, IsTrue, ◌↔◌, []};
 ghost use Rattle.map_file.specs.declared.maps.Map.{Map as Maps};
 ghost use Rattle.map_file.specs.MapFaults.{HasNoEnd, IsFaultOf, IsReadAs};
@@ -37,13 +38,13 @@ fn is_whole(draft: &Draft, rest: &[u8]) -> bool
 }
 
 /// The map whose text the bytes are. `Line(n)` where line n, counted from 1, is the first that isn't in the form
-/// at its place: a line that is missing, or the last without its LF, isn't either. `Memory` is want of memory.
-/// The time is linear in the bytes, but for names, which are compared two by two.
+/// at its place: a line that is missing, or the last without its LF, isn't either. `Memory` is out of memory.
+/// The time is linear in the bytes, but for names and samples, which are compared two by two.
 pub fn read(alloc: Global, bytes: &[u8]) -> Result<Map, MapFault>
     requires { length bytes.now < 2 ^ 32 }
     ensures map { IfOk result (λ map. IsMap map × (bytes.now ≡ map_text map)) }
     ensures fault { IfErr result (IsFaultOf bytes.now) }
-    // A map's text is read as this map and refused only for want of memory.
+    // A map's text is read as this map and refused only for out of memory.
     ensures complete { (map : Maps) → IsMap map → bytes.now ≡ map_text map → IsReadAs map result }
 {
     let mut draft = empty(alloc);

@@ -1,3 +1,4 @@
+// What one field of a line writes: a name, a word, a number or an address.
 ghost use Rattle.std.specs.Prelude.{◌≡◌, ◌≢◌, ℕ, ◌<◌, ◌≤◌, List, [], ◌∷◌, ◌||◌, MatchOption, IsTrue, false};
 ghost use Rattle.std.specs.List.{list_all};
 ghost use Rattle.std.specs.Str.{IsUtf8};
@@ -109,7 +110,7 @@ pub fn type_in(field: &[u8]) -> Option<Ty>
     }
 }
 
-// Whether neither a sign nor a leading zero stands at the front.
+// Whether it begins with neither a sign nor a leading zero.
 fn is_plain(field: &[u8]) -> bool
     ensures { result ≡ is_plain field.now }
 {

@@ -1,3 +1,4 @@
+// The text of a map is written line by line.
 ghost use Rattle.std.specs.Prelude.{◌≡◌, ◌++◌, ◌<◌, ◌∷◌, [], IfOk, OnOk, string_bytes, codes};
 ghost use Rattle.frp_tree.specs.Digits.{hex4};
 ghost use Rattle.std.specs.List.{flat_map, AllByRecursion};
@@ -7,19 +8,20 @@ ghost use Rattle.map_file.specs.MapText.{
   event_line,
   state_line,
   output_line,
+  sample_line,
   range_line,
   report_line,
 };
 ghost use Rattle.map_file.specs.MapRules.{IsMap, IsData, IsState, RangesRise};
 
-use crate::maps::{Map, MapEvent, MapState, Range};
+use crate::maps::{Map, MapEvent, MapSample, MapState, Range};
 use frp_tree::{List, Ty};
 use pic_isa::port_name;
 use std::alloc::{AllocError, Global};
 
-/// The text of a map: its kind and version, a line for each event, state and output, the ready address, a line
+/// The text of a map: its kind and version, a line for each event, state, output and sample, the ready address, a line
 /// for each range of registers, and the report. Each line ends in LF. Code addresses are four upper-case
-/// hexadecimal digits, data addresses three, all other numbers decimal. An `Err` is want of memory.
+/// hexadecimal digits, data addresses three, all other numbers decimal. An `Err` is out of memory.
 pub fn write(alloc: Global, map: &Map) -> Result<List<u8>, AllocError>
     requires { IsMap map.now }
     ensures { IfOk result (λ bytes. bytes ≡ map_text map.now) }
@@ -29,6 +31,7 @@ pub fn write(alloc: Global, map: &Map) -> Result<List<u8>, AllocError>
     write_events(&mut text, map.events.as_slice())?;
     write_states(&mut text, map.states.as_slice())?;
     write_outputs(&mut text, map.outputs.as_slice())?;
+    write_samples(&mut text, map.samples.as_slice())?;
     write_ready(&mut text, map.ready)?;
     write_ranges(&mut text, map.regs.as_slice())?;
     write_report(&mut text, map)?;
@@ -95,6 +98,24 @@ fn write_output(text: &mut String, port: u8) -> Result<(), AllocError>
     ensures { OnOk result (string_bytes text.new ≡ string_bytes text.old ++ output_line port) }
 {
     writeln!(text, "output {}", port_name(port))
+}
+
+fn write_samples(text: &mut String, samples: &[MapSample]) -> Result<(), AllocError>
+    ensures { OnOk result (string_bytes text.new ≡ string_bytes text.old ++ flat_map sample_line samples.now) }
+{
+    for sample in samples {
+        write_sample(text, sample)?;
+    }
+    Ok(())
+}
+
+fn write_sample(text: &mut String, sample: &MapSample) -> Result<(), AllocError>
+    ensures { OnOk result (string_bytes text.new ≡ string_bytes text.old ++ sample_line sample.now) }
+{
+    let event = sample.event.as_str();
+    let input = sample.input.as_str();
+    let at = sample.at;
+    writeln!(text, "sample {event} {input} {at:04X}")
 }
 
 fn write_ready(text: &mut String, ready: u16) -> Result<(), AllocError>

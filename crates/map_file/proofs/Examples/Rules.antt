@@ -1,12 +1,12 @@
 -- Maps that keep the rules, and what breaks a rule.
-use Rattle.std.proofs.Common.{◌≡◌, ℕ, true, false, List, [], ◌∷◌, codes, refl, arith}
+use Rattle.std.proofs.Common.{◌≡◌, ℕ, true, false, List, [], ◌∷◌, IsTrue, codes, refl, arith}
 use Rattle.frp_tree.specs.Names.{is_name}
 use Rattle.frp_tree.specs.declared.syntax.Ty.TheVariants as ty
 use Rattle.pic_isa.specs.declared.sources.Source.{Source}
 use Rattle.pic_isa.specs.declared.sources.Source.TheVariants as source
 use Rattle.map_file.specs.declared.maps.MapEvent.{MapEvent}
-use Rattle.map_file.specs.MapRules.{IsMap, IsEvent, IsState, RangesRise}
-use Rattle.map_file.proofs.Examples.Texts.{range, state, counter, empty, wide, flag, full}
+use Rattle.map_file.specs.MapRules.{IsMap, IsEvent, IsSample, IsState, RangesRise, names_event}
+use Rattle.map_file.proofs.Examples.Texts.{range, state, sample, counter, empty, wide, flag, sampling, full}
 
 pub counter_keeps_the_rules : IsMap counter
 counter_keeps_the_rules = search (arith)
@@ -20,9 +20,13 @@ wide_keeps_the_rules = search (arith)
 flag_keeps_the_rules : IsMap flag
 flag_keeps_the_rules = search (arith)
 
--- With one port twice, a state at one address, and a state that is named as a keyword.
+-- With one port twice, a state at one address, a state that is named as a keyword, and samples in another order than the
+-- events.
 full_keeps_the_rules : IsMap full
 full_keeps_the_rules = search (arith)
+
+sampling_keeps_the_rules : IsMap sampling
+sampling_keeps_the_rules = search (arith)
 
 an_event_and_a_state_may_have_one_name : IsMap (record counter { states = state (codes "Tick") ty.U8 0x20 0x20 ∷ [] })
 an_event_and_a_state_may_have_one_name = search (arith)
@@ -62,6 +66,24 @@ port_5_breaks_a_rule rules = omega arith
 
 six_outputs_break_a_rule : IsMap (record empty { outputs = 0 ∷ 0 ∷ 0 ∷ 0 ∷ 0 ∷ 0 ∷ [] }) → ⊥
 six_outputs_break_a_rule rules = omega arith
+
+an_event_may_sample_two_inputs : IsMap (record counter { samples = sample (codes "Tick") (codes "a") 5 ∷ sample (codes "Tick") (codes "b") 5 ∷ [] })
+an_event_may_sample_two_inputs = search (arith)
+
+sample_of_an_unknown_event_breaks_a_rule : IsMap (record counter { samples = sample (codes "Tock") (codes "level") 0x12 ∷ [] }) → ⊥
+sample_of_an_unknown_event_breaks_a_rule rules = let known : IsTrue (names_event counter.events (codes "Tock")) = rules.samples.0.event in cc known
+
+sample_without_an_event_breaks_a_rule : IsMap (record empty { samples = sample (codes "Tick") (codes "level") 0x12 ∷ [] }) → ⊥
+sample_without_an_event_breaks_a_rule rules = let known : IsTrue (names_event [] (codes "Tick")) = rules.samples.0.event in cc known
+
+pair_named_twice_breaks_a_rule : IsMap (record counter { samples = sample (codes "Tick") (codes "a") 5 ∷ sample (codes "Tick") (codes "b") 6 ∷ sample (codes "Tick") (codes "a") 7 ∷ [] }) → ⊥
+pair_named_twice_breaks_a_rule rules = rules.sample_pairs.0.1.0 refl
+
+input_with_a_space_breaks_a_rule : IsSample counter.events (sample (codes "Tick") (codes "a b") 5) → ⊥
+input_with_a_space_breaks_a_rule rules = let form : IsTrue (is_name (codes "a b")) = rules.input in cc form
+
+sample_at_2000h_breaks_a_rule : IsSample counter.events (sample (codes "Tick") (codes "level") 0x2000) → ⊥
+sample_at_2000h_breaks_a_rule rules = omega arith
 
 ranges_one_apart_keep_the_rules : RangesRise 0 (range 0 5 ∷ range 7 7 ∷ [])
 ranges_one_apart_keep_the_rules = search (arith)

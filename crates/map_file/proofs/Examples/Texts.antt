@@ -5,6 +5,7 @@ use Rattle.frp_tree.specs.declared.syntax.Ty.{Ty}
 use Rattle.frp_tree.specs.declared.syntax.Ty.TheVariants as ty
 use Rattle.pic_isa.specs.declared.sources.Source.TheVariants as source
 use Rattle.map_file.specs.declared.maps.MapState.{MapState}
+use Rattle.map_file.specs.declared.maps.MapSample.{MapSample}
 use Rattle.map_file.specs.declared.maps.Range.{Range}
 use Rattle.map_file.specs.declared.maps.Map.{Map}
 use Rattle.map_file.specs.MapText.{map_text}
@@ -15,12 +16,16 @@ range first last = record { from = first; to = last }
 abbrev pub state : List ℕ → Ty → ℕ → ℕ → MapState
 state name ty low high = record { name = name; ty = ty; low = low; high = high }
 
+abbrev pub sample : List ℕ → List ℕ → ℕ → MapSample
+sample event input at = record { event = event; input = input; at = at }
+
 -- A counter on a port.
 abbrev pub counter : Map
 counter = record {
   events = record { name = codes "Tick"; source = source.Int; priority = 1; «open» = 0x41; commit = 0x1A47 } ∷ [];
   states = state (codes "n") ty.U8 0x20 0x20 ∷ [];
   outputs = 1 ∷ [];
+  samples = [];
   ready = 0x2F;
   regs = range 6 0xB ∷ range 0x20 0x7F ∷ [];
   depth = 1;
@@ -43,7 +48,7 @@ one_event_one_byte_state_one_port_two_ranges = refl
 
 -- No event, state, output or range.
 abbrev pub empty : Map
-empty = record { events = []; states = []; outputs = []; ready = 0; regs = []; depth = 0; ram = 0; words = 0; settle = 0 }
+empty = record { events = []; states = []; outputs = []; samples = []; ready = 0; regs = []; depth = 0; ram = 0; words = 0; settle = 0 }
 
 pub empty_lists_have_no_line : map_text empty
     ≡ codes "efrp map 1\n"
@@ -75,6 +80,23 @@ pub bool_state_has_one_address : map_text flag
 unfolding digits
 bool_state_has_one_address = refl
 
+-- An event that samples an input.
+abbrev pub sampling : Map
+sampling = record counter { samples = sample (codes "Tick") (codes "level") 0x12 ∷ [] }
+
+pub sample_stands_between_outputs_and_ready : map_text sampling
+    ≡ codes "efrp map 1\n"
+    ++ codes "event Tick INT 1 open 0041 commit 1A47\n"
+    ++ codes "state n u8 020\n"
+    ++ codes "output PORTB\n"
+    ++ codes "sample Tick level 0012\n"
+    ++ codes "ready 002F\n"
+    ++ codes "regs 006-00B\n"
+    ++ codes "regs 020-07F\n"
+    ++ codes "report depth 1 ram 11 words 72 settle 586\n"
+unfolding digits
+sample_stands_between_outputs_and_ready = refl
+
 -- Each number as great as it may be, and lists of several items.
 abbrev pub full : Map
 full = record {
@@ -82,6 +104,7 @@ full = record {
       ∷ record { name = codes "_0"; source = source.T0; priority = 10; «open» = 0xABC; commit = 0xDEF } ∷ [];
   states = state (codes "state") ty.U16 0x1FF 0x1FF ∷ state (codes "a_B9") ty.U8 0 0 ∷ [];
   outputs = 4 ∷ 0 ∷ 4 ∷ [];
+  samples = sample (codes "_0") (codes "u8") 0x1FFF ∷ sample (codes "Last") (codes "u8") 0 ∷ sample (codes "_0") (codes "Last") 0x1FFF ∷ [];
   ready = 0x1FFF;
   regs = range 0 0x1FD ∷ range 0x1FF 0x1FF ∷ [];
   depth = 8;
@@ -99,6 +122,9 @@ pub greatest_numbers_and_several_items : map_text full
     ++ codes "output PORTE\n"
     ++ codes "output PORTA\n"
     ++ codes "output PORTE\n"
+    ++ codes "sample _0 u8 1FFF\n"
+    ++ codes "sample Last u8 0000\n"
+    ++ codes "sample _0 Last 1FFF\n"
     ++ codes "ready 1FFF\n"
     ++ codes "regs 000-1FD\n"
     ++ codes "regs 1FF-1FF\n"
