@@ -1,18 +1,20 @@
--- What it means that an event is heard: by the examples of two sources, and by what the chip takes.
-use Rattle.std.specs.Prelude.{ℕ, zero, suc, Bool, true, false, ◌&&◌, ◌||◌}
-use Rattle.std.proofs.Common.{◌≡◌, refl}
+-- An event that is heard with its flag set: the chip takes an interrupt at that boundary or the next, whatever the firmware.
+use Rattle.std.specs.Prelude.{ℕ, zero, suc, ◌+◌, Bool, true, false, ◌||◌, ◌&&◌, List, [], ◌∷◌, ◌⊎◌}
+use Rattle.std.specs.List.{AllByRecursion}
+use Rattle.std.proofs.Common.{◌≡◌, refl, sym, subst, add-one}
+use Rattle.std.proofs.lemmas.Bool.{and_parts}
 use Rattle.pic_isa.specs.declared.sources.Source.{Source}
 use Rattle.pic_isa.specs.declared.sources.Source.TheVariants.{T0, Int, Psp, Ad, Ssp, Ccp1, Tmr2, Tmr1, Ee, Bcl, Ccp2}
-use Rattle.pic_regs.specs.Bytes.{Byte, zeros}
+use Rattle.pic_regs.specs.Bytes.{zeros}
 use Rattle.pic_regs.specs.Registers.{Registers, flag, enable, requested}
-use Rattle.pic_regs.specs.Arrivals.{Sources}
 use Rattle.pic_machine.specs.Chip.{Chip}
-use Rattle.pic_machine.specs.Boundary.{Step, boundary}
-use Rattle.pic_machine.specs.Run.{log, after}
+use Rattle.pic_machine.specs.Boundary.{Outer, Step}
+use Rattle.pic_machine.specs.Run.{Log, log, after}
+use Rattle.pic_machine.proofs.TurnLaws.{taken-in_time}
 use Rattle.map_file.specs.declared.maps.MapEvent.{MapEvent}
+use Rattle.map_file.specs.declared.maps.Map.{Map}
 use Rattle.firmware_promises.specs.Counts.{takes, chip_after}
-use Rattle.firmware_promises.specs.Urgent.{is_in_intcon, is_heard}
-use Rattle.promise_examples.proofs.Logs.Stories.{chip_of, ran, tick_event}
+use Rattle.firmware_promises.specs.Urgent.{is_in_intcon, is_heard, TakesInTime}
 
 -- A flag lies in INTCON, or in PIR1 and PIR2: the other registers don't change it.
 pub flag_in_intcon : (source : Source) (r : Registers) → is_in_intcon source ≡ true → flag source (record r { pir1 = zeros; pir2 = zeros }) ≡ flag source r
@@ -25,36 +27,12 @@ flag_not_in_intcon T0 r h = absurd cc
 flag_not_in_intcon Int r h = absurd cc
 flag_not_in_intcon _ r h = refl
 
--- An event on TMR1 is heard with GIE, its enable and PEIE on, and one on INT without PEIE.
-abbrev with_pie1 : Byte → Byte → Step
-with_pie1 intcon pie1 = let c = chip_of 8 intcon 0 in let there = record c { regs = record c.regs { pie1 = pie1 } } in ran there there
-
-abbrev gie_and : Bool → Bool → Byte
-gie_and peie int_enable = record zeros { b7 = true; b6 = peie; b4 = int_enable }
-
-pub tmr1_is_heard_with_peie : is_heard (record tick_event { source = Tmr1 }) (with_pie1 (gie_and true false) (record zeros { b0 = true })) ≡ true
-tmr1_is_heard_with_peie = refl
-
-pub tmr1_is_not_heard_without_peie : is_heard (record tick_event { source = Tmr1 }) (with_pie1 (gie_and false false) (record zeros { b0 = true })) ≡ false
-tmr1_is_not_heard_without_peie = refl
-
-pub tmr1_is_not_heard_without_its_enable : is_heard (record tick_event { source = Tmr1 }) (with_pie1 (gie_and true true) zeros) ≡ false
-tmr1_is_not_heard_without_its_enable = refl
-
-pub int_is_heard_without_peie : is_heard tick_event (with_pie1 (gie_and false true) zeros) ≡ true
-int_is_heard_without_peie = refl
-
 -- Where an event is heard and its flag is set, the chip's interrupt is requested.
-both : (a b : Bool) → a && b ≡ true → (a ≡ true) × (b ≡ true)
-both true true h = (refl, refl)
-both true false h = absurd cc
-both false b h = absurd cc
-
-or_true : (a : Bool) → a || true ≡ true
+or_true : (a : Bool) → (a || true) ≡ true
 or_true true = refl
 or_true false = refl
 
-requested_by : (source : Source) (r : Registers) → r.intcon.b7 ≡ true → enable source r ≡ true → is_in_intcon source || r.intcon.b6 ≡ true → flag source r ≡ true → requested r ≡ true
+requested_by : (source : Source) (r : Registers) → r.intcon.b7 ≡ true → enable source r ≡ true → (is_in_intcon source || r.intcon.b6) ≡ true → flag source r ≡ true → requested r ≡ true
 requested_by T0 r gie its_enable peie its_flag = rw (gie, its_enable, its_flag) refl
 requested_by Int r gie its_enable peie its_flag = rw (gie, its_enable, its_flag) (simp or_true)
 requested_by Psp r gie its_enable peie its_flag = rw (gie, peie, its_enable, its_flag) (simp or_true)
@@ -69,16 +47,30 @@ requested_by Ccp2 r gie its_enable peie its_flag = rw (gie, peie, its_enable, it
 
 pub heard_is_requested : (e : MapEvent) (s : Step) → is_heard e s ≡ true → flag e.source s.arrived.regs ≡ true → requested s.arrived.regs ≡ true
 heard_is_requested e s heard its_flag =
-    let outer = both (s.arrived.regs.intcon.b7 && enable e.source s.arrived.regs) (is_in_intcon e.source || s.arrived.regs.intcon.b6) heard in
-    let inner = both s.arrived.regs.intcon.b7 (enable e.source s.arrived.regs) outer.0 in
+    let outer = and_parts (s.arrived.regs.intcon.b7 && enable e.source s.arrived.regs) (is_in_intcon e.source || s.arrived.regs.intcon.b6) heard in
+    let inner = and_parts s.arrived.regs.intcon.b7 (enable e.source s.arrived.regs) outer.0 in
     requested_by e.source s.arrived.regs inner.0 inner.1 outer.1 its_flag
 
--- So a step of the chip at whose boundary an event is heard with its flag set takes an interrupt.
-pub heard_is_taken : (program : ℕ → ℕ) (arrivals : Sources) (c : Chip) (e : MapEvent) → is_heard e (boundary program arrivals c) ≡ true
-    → flag e.source (boundary program arrivals c).arrived.regs ≡ true → takes (boundary program arrivals c) ≡ true
-heard_is_taken program arrivals c e heard its_flag = rw (heard_is_requested e (boundary program arrivals c) heard its_flag) refl
+module _ (program : ℕ → ℕ) (c : Chip) (outer : ℕ → Outer) where
+  abbrev steps : Log
+  steps = log program c outer
 
--- In a log of the chip's run the chip after n steps is the run's.
-pub chip_after_is_of_the_run : (program : ℕ → ℕ) (c : Chip) (arrivals : ℕ → Sources) (n : ℕ) → chip_after (log program c arrivals) n ≡ after program c arrivals n
-chip_after_is_of_the_run program c arrivals zero = refl
-chip_after_is_of_the_run program c arrivals (suc n) = refl
+  -- So in each run of the chip an interrupt is taken at this step or the next.
+  pub heard_is_taken : (e : MapEvent) (k : ℕ) → is_heard e (steps k) ≡ true → flag e.source (steps k).arrived.regs ≡ true → (takes (steps k) ≡ true) ⊎ (takes (steps (suc k)) ≡ true)
+  heard_is_taken e k heard its_flag = taken-in_time program c outer k (heard_is_requested e (steps k) heard its_flag)
+
+  abbrev InTime : ℕ → MapEvent → Type 0
+  InTime k e = is_heard e (steps k) ≡ true → flag e.source (steps k).arrived.regs ≡ true → (takes (steps k) ≡ true) ⊎ (takes (steps (k + 1)) ≡ true)
+
+  each_in_time : (k : ℕ) (events : List MapEvent) → AllByRecursion (InTime k) events
+  each_in_time k [] = tt
+  each_in_time k (e ∷ events) =
+      ((λ heard its_flag. subst (λ j. (takes (steps k) ≡ true) ⊎ (takes (steps j) ≡ true)) (sym (add-one k)) (heard_is_taken e k heard its_flag)), each_in_time k events)
+
+  pub takes_in_time : (m : Map) (n : ℕ) → TakesInTime m steps n
+  takes_in_time m n k h = each_in_time k m.events
+
+  -- In a log of the chip's run the chip after n steps is the run's.
+  pub chip_after_is_of_the_run : (n : ℕ) → chip_after steps n ≡ after program c outer n
+  chip_after_is_of_the_run zero = refl
+  chip_after_is_of_the_run (suc n) = refl

@@ -4,3 +4,4 @@ pub mod HeardLaws
 pub mod ListLaws
 pub mod OnceLaws
 pub mod ReadyLaws
+pub mod SampleLaws

@@ -1,3 +1,4 @@
+-- The boot clears no flag.
 use Rattle.std.specs.Prelude.{◌≡◌, ℕ, ◌<◌, false}
 use Rattle.pic_isa.specs.declared.sources.Source.{Source}
 use Rattle.pic_machine.specs.Run.{Log}

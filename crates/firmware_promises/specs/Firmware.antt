@@ -1,10 +1,12 @@
-use Rattle.std.specs.Prelude.{◌≡◌, ℕ, ◌+◌, ◌*◌, ◌<◌, ◌≤◌, ◌==◌, Bool, true, false, ◌&&◌, ◌||◌, zero, suc, List, [], ◌∷◌, length, map, filter, Option, Some, None, IfSome, IsTrue, not}
+-- What a map names, reports and lists, and what an image promises in every run: `IsFirmware`.
+use Rattle.std.specs.Prelude.{◌≡◌, ℕ, ◌+◌, ◌*◌, ◌<◌, ◌≤◌, ◌==◌, Bool, true, false, ◌&&◌, ◌||◌, zero, suc, List, [], ◌∷◌, ◌++◌, length, map, Option, Some, None, IfSome, IsTrue}
 use Rattle.std.specs.List.{flat_map, list_any, AllByRecursion}
 use Rattle.frp_tree.specs.declared.syntax.Ty.{Ty}
 use Rattle.frp_tree.specs.declared.syntax.Ty.TheVariants as ty
 use Rattle.frp_tree.specs.declared.syntax.Event.{Event}
 use Rattle.frp_tree.specs.Tree.{DeclTree, ProgramTree}
-use Rattle.efrp_meaning.specs.Needs.{is_plain}
+use Rattle.efrp_meaning.specs.Decls.{reactive_decls}
+use Rattle.efrp_meaning.specs.Needs.{inputs_needed}
 use Rattle.efrp_meaning.specs.Bounds.{words_bound, ram_bound, settle_bound, levels}
 use Rattle.pic_isa.specs.Names.{port_at, register_at}
 use Rattle.pic_isa.specs.Sources.{source_name}
@@ -13,13 +15,14 @@ use Rattle.pic_regs.specs.declared.starts.Start.{Start}
 use Rattle.pic_regs.specs.Bytes.{one_if}
 use Rattle.pic_regs.specs.Map.{within, canonical}
 use Rattle.pic_regs.specs.Start.{IsStart}
-use Rattle.pic_regs.specs.Arrivals.{Sources}
-use Rattle.pic_machine.specs.Run.{Log, arrivals_of, run}
+use Rattle.pic_machine.specs.Boundary.{Outer}
+use Rattle.pic_machine.specs.Run.{Log, outer_of, run}
 use Rattle.pic_machine.specs.Dids.{is_stop}
 use Rattle.hex_file.specs.declared.images.Image.{Image}
 use Rattle.hex_file.specs.Written.{IsWritable, written}
 use Rattle.hex_file.specs.ImageOf.{IsImageOf}
 use Rattle.map_file.specs.declared.maps.MapEvent.{MapEvent}
+use Rattle.map_file.specs.declared.maps.MapSample.{MapSample}
 use Rattle.map_file.specs.declared.maps.MapState.{MapState}
 use Rattle.map_file.specs.declared.maps.Map.{Map}
 use Rattle.map_file.specs.MapRules.{AllDiffer, IsMap}
@@ -42,7 +45,7 @@ is_general address = is_banked address || within 0x070 0x07F address
 
 -- The code addresses that a map names.
 abbrev pub code_addresses : Map → List ℕ
-code_addresses m = m.ready ∷ flat_map (λ e. e.«open» ∷ e.commit ∷ []) m.events
+code_addresses m = m.ready ∷ (flat_map (λ e. e.«open» ∷ e.commit ∷ []) m.events ++ map (λ (s : MapSample). s.at) m.samples)
 
 -- The data addresses of the states' bytes.
 abbrev pub bytes_of : Ty → ℕ → ℕ → List ℕ
@@ -63,12 +66,22 @@ typed_state s = (s.name, s.ty)
 abbrev pub typed_decl : DeclTree → List ℕ × Ty
 typed_decl d = (d.name, d.ty)
 
--- The map's events, states and outputs are the program's, in declaration order. The code addresses that it names differ and
--- have words in the image. The states' bytes are distinct bytes of general RAM outside 70h to 7Fh, and are listed.
+-- The event and the input of a map's sample, by name; and each event with each input that it needs, both in declaration
+-- order.
+abbrev pub sample_pair : MapSample → List ℕ × List ℕ
+sample_pair s = (s.event, s.input)
+
+abbrev pub sample_pairs : ProgramTree → List (List ℕ × List ℕ)
+sample_pairs p = flat_map (λ (e : Event). map (λ input. (e.name, input)) (inputs_needed p e.name)) p.events
+
+-- The map's events, states and outputs are the program's, in declaration order, and its samples are of each event and each
+-- input that it needs. The code addresses that it names differ and have words in the image. The states' bytes are distinct
+-- bytes of general RAM outside 70h to 7Fh, and are listed.
 pub record Names (p : ProgramTree) (image : Image) (m : Map) : Type 0 where
   pub events : map event_of m.events ≡ p.events
-  pub states : map typed_state m.states ≡ map typed_decl (filter (λ d. not (is_plain d.behaviour)) p.decls)
+  pub states : map typed_state m.states ≡ map typed_decl (reactive_decls p)
   pub outputs : map (λ port. Some port) m.outputs ≡ map (λ o. port_at o.port) p.outputs
+  pub samples : map sample_pair m.samples ≡ sample_pairs p
   pub code_differs : AllDiffer (λ (a : ℕ). a) (code_addresses m)
   pub code_is_there : AllByRecursion (λ a. IsTrue (list_any (λ w. w.address == a) image.words)) (code_addresses m)
   pub states_differ : AllDiffer (λ (a : ℕ). a) (state_addresses m)
@@ -127,16 +140,17 @@ pub record Keeps (p : ProgramTree) (m : Map) (log : Log) (n : ℕ) : Type 0 wher
   pub depth : (k : ℕ) → k ≤ n → (chip_after log k).depth ≤ m.depth
 
 -- n steps are at least the map's settle, counted from power-on and from each boundary before with an arrival.
-abbrev pub IsQuietLongEnough : Map → List Sources → ℕ → Type 0
-IsQuietLongEnough m arrivals n = (m.settle ≤ n) × ((k : ℕ) (source : Source) → k < n → arrivals_of arrivals k source ≡ true → k + m.settle ≤ n)
+abbrev pub IsQuietLongEnough : Map → List Outer → ℕ → Type 0
+IsQuietLongEnough m outers n = (m.settle ≤ n) × ((k : ℕ) (source : Source) → k < n → (outer_of outers k).arrivals source ≡ true → k + m.settle ≤ n)
 
--- What the image promises at every moment of every run: from every start, under every list of arrivals of any sources.
+-- What the image promises at every moment of every run: from every start, whatever comes from outside, be it arrivals of any
+-- sources, any pins, or interrupts that are late.
 abbrev pub AlwaysKeeps : ProgramTree → Image → Map → Type 0
-AlwaysKeeps p image m = (start : Start) (arrivals : List Sources) (n : ℕ) → IsStart start → Keeps p m (run image start arrivals) n
+AlwaysKeeps p image m = (start : Start) (outers : List Outer) (n : ℕ) → IsStart start → Keeps p m (run image start outers) n
 
--- Where no source has arrived for long enough, all have reacted.
+-- Where no source has arrived for long enough, all have reacted, whatever the pins and however late interrupts are.
 abbrev pub AlwaysSettles : ProgramTree → Image → Map → Type 0
-AlwaysSettles p image m = (start : Start) (arrivals : List Sources) (n : ℕ) → IsStart start → IsQuietLongEnough m arrivals n → Settled m (run image start arrivals) n
+AlwaysSettles p image m = (start : Start) (outers : List Outer) (n : ℕ) → IsStart start → IsQuietLongEnough m outers n → Settled m (run image start outers) n
 
 -- The bytes of a HEX file and of a map file are firmware for a program. The first are the written form of the image that they
 -- mean, with the configuration word 3F3Ah, and the second the text of a map. The map names what is the program's, reports and

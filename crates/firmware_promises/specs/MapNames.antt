@@ -1,3 +1,4 @@
+-- What a map says of a chip: the states' values, and which registers are listed.
 use Rattle.std.specs.Prelude.{ℕ, Bool, false, ◌&&◌, ◌||◌, nat_le, List, [], ◌∷◌, map}
 use Rattle.map_file.specs.declared.maps.Range.{Range}
 use Rattle.map_file.specs.declared.maps.Map.{Map}

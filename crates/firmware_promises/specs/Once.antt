@@ -1,3 +1,4 @@
+-- Each latch is treated once.
 use Rattle.std.specs.Prelude.{◌≡◌, ℕ, ◌+◌, ◌⊎◌}
 use Rattle.std.specs.List.{AllByRecursion}
 use Rattle.pic_machine.specs.Run.{Log}

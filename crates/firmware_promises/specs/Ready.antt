@@ -1,3 +1,4 @@
+-- The ready boundary of a log.
 use Rattle.std.specs.Prelude.{◌≡◌, ℕ, ◌<◌, ◌≤◌, true, ◌⊎◌}
 use Rattle.pic_machine.specs.Run.{Log}
 use Rattle.map_file.specs.declared.maps.Map.{Map}

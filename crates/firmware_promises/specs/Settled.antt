@@ -1,3 +1,4 @@
+-- All have reacted.
 use Rattle.std.specs.Prelude.{◌≡◌, ℕ, false}
 use Rattle.std.specs.List.{AllByRecursion}
 use Rattle.pic_regs.specs.Registers.{flag}

@@ -1,3 +1,4 @@
+-- What is set up stands.
 use Rattle.std.specs.Prelude.{◌≡◌, ℕ, ◌≤◌, ◌==◌, false, List, [], ◌∷◌, Option, Some, None, if◌then◌else◌}
 use Rattle.frp_tree.specs.declared.syntax.Setup.{Setup}
 use Rattle.frp_tree.specs.Tree.{ProgramTree}

@@ -1,8 +1,9 @@
-use Rattle.std.specs.Prelude.{◌≡◌, ℕ, ◌+◌, ◌-◌, ◌<◌, ◌≤◌, Bool, true, false, ◌&&◌, not, ◌||◌, List, ◌∷◌, []}
+-- Urgency: no overtaking, interrupts come on, events are heard, work opens, and what is heard is taken in time.
+use Rattle.std.specs.Prelude.{◌≡◌, ℕ, ◌+◌, ◌-◌, ◌<◌, ◌≤◌, Bool, true, false, ◌&&◌, not, ◌||◌, List, ◌∷◌, [], ◌⊎◌}
 use Rattle.std.specs.List.{AllByRecursion}
 use Rattle.pic_isa.specs.declared.sources.Source.{Source}
 use Rattle.pic_isa.specs.declared.sources.Source.TheVariants.{T0, Int, Psp, Ad, Ssp, Ccp1, Tmr2, Tmr1, Ee, Bcl, Ccp2}
-use Rattle.pic_regs.specs.Registers.{enable}
+use Rattle.pic_regs.specs.Registers.{flag, enable}
 use Rattle.pic_machine.specs.Boundary.{Step}
 use Rattle.pic_machine.specs.Run.{Log}
 use Rattle.frp_tree.specs.Tree.{ProgramTree}
@@ -67,16 +68,22 @@ opens_one [] step = false
 opens_one (e ∷ es) step = ran_at e.«open» step || opens_one es step
 
 -- A step that clears the flag of an event, or at whose boundary GIE is on and which takes no interrupt.
-abbrev pub is_due : Map → Step → Bool
-is_due m step = clears_one m.events step || interrupts_on step && not (takes step)
+abbrev pub asks_for_opening : Map → Step → Bool
+asks_for_opening m step = clears_one m.events step || interrupts_on step && not (takes step)
 
 -- A step with GIE on at its boundary, or that opens an event, or takes an interrupt.
-abbrev pub is_paid : Map → Step → Bool
-is_paid m step = interrupts_on step || opens_one m.events step || takes step
+abbrev pub gives_opening : Map → Step → Bool
+gives_opening m step = interrupts_on step || opens_one m.events step || takes step
 
 -- Open work: one of the 16 steps after a step of the first kind is of the second.
 abbrev pub WorkIsOpen : Map → Log → ℕ → Type 0
-WorkIsOpen m log n = (k : ℕ) → k + 16 < n → is_due m (log k) ≡ true → (j : ℕ) × (k < j) × (j ≤ k + 16) × (is_paid m (log j) ≡ true)
+WorkIsOpen m log n = (k : ℕ) → k + 16 < n → asks_for_opening m (log k) ≡ true → (j : ℕ) × (k < j) × (j ≤ k + 16) × (gives_opening m (log j) ≡ true)
+
+-- In time: where an event is heard at a boundary and its flag is set there, an interrupt is taken at that boundary or the
+-- next. So a request is late by one instruction at most, also where that instruction turns interrupts off.
+abbrev pub TakesInTime : Map → Log → ℕ → Type 0
+TakesInTime m log n = (k : ℕ) → k + 1 < n →
+    AllByRecursion (λ (e : MapEvent). is_heard e (log k) ≡ true → flag e.source (log k).arrived.regs ≡ true → (takes (log k) ≡ true) ⊎ (takes (log (k + 1)) ≡ true)) m.events
 
 -- Urgency, over the first n steps.
 pub record Urgent (p : ProgramTree) (m : Map) (log : Log) (n : ℕ) : Type 0 where
@@ -84,3 +91,4 @@ pub record Urgent (p : ProgramTree) (m : Map) (log : Log) (n : ℕ) : Type 0 whe
   pub interrupts_off : InterruptsComeOn p m log n
   pub listening : Listens p m log n
   pub open_work : WorkIsOpen m log n
+  pub in_time : TakesInTime m log n
