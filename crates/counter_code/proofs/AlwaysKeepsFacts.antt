@@ -1,8 +1,8 @@
--- The image of a counter keeps what firmware promises: from every start, under every list of arrivals, at every moment.
+-- The image of a counter keeps what firmware promises: from every start, whatever comes from outside, at every moment.
 use Rattle.std.specs.Prelude.{Bool, true, false, not, ◌&&◌}
 use Rattle.std.proofs.Common.{◌≡◌, refl, arith}
 use Rattle.pic_regs.specs.Registers.{flag}
-use Rattle.pic_machine.specs.Run.{Log, arrivals_of}
+use Rattle.pic_machine.specs.Run.{Log, outer_of}
 use Rattle.counter_code.specs.declared.counters.Counter.{Counter}
 use Rattle.counter_code.specs.Counters.{IsCounter, program_of}
 use Rattle.counter_code.specs.Layout.{image_of}
@@ -39,4 +39,4 @@ unlatched false is_set never = refl
 pub always_settles : (c : Counter) → IsCounter c → AlwaysSettles (program_of c) (image_of c) (map_of c)
 always_settles c fine start list n is_start quiet =
     story-settled c (log_of c start list) fine (story c fine start list) n quiet.0 (λ j late below.
-    unlatched (arrivals_of list j c.source) (flag c.source (chip_at c start list j).regs) (λ e. let early = quiet.1 j c.source below e in omega (arith, early, late)))
+    unlatched ((outer_of list j).arrivals c.source) (flag c.source (chip_at c start list j).regs) (λ e. let early = quiet.1 j c.source below e in omega (arith, early, late)))

@@ -9,12 +9,12 @@ use Rattle.pic_regs.specs.declared.starts.Start.{Start}
 use Rattle.pic_regs.specs.Bytes.{Byte, bits}
 use Rattle.pic_regs.specs.Map.{Reg}
 use Rattle.pic_regs.specs.Registers.{Registers, requested}
-use Rattle.pic_regs.specs.Arrivals.{Sources, arrived}
 use Rattle.pic_machine.specs.declared.steps.PortWrite.{PortWrite}
 use Rattle.pic_machine.specs.Chip.{Chip}
 use Rattle.pic_machine.specs.Exec.{field, operand}
-use Rattle.pic_machine.specs.Run.{Log, program_of, power_on, arrivals_of, after, run}
-use Rattle.pic_machine.proofs.TurnLaws.{running, runs-it}
+use Rattle.pic_machine.specs.Boundary.{Outer}
+use Rattle.pic_machine.specs.Run.{Log, program_of, power_on, outer_of, after, run}
+use Rattle.pic_machine.proofs.TurnLaws.{with_outer, running, runs-it}
 use Rattle.counter_code.specs.declared.counters.Counter.{Counter}
 use Rattle.counter_code.specs.declared.counters.SetupAt.{SetupAt}
 use Rattle.counter_code.specs.Counters.{IsCounter}
@@ -83,38 +83,39 @@ abbrev pub boot_steps : Counter → ℕ
 boot_steps c = length (running_order (kind_of c.setup) (is_peripheral c.source))
 
 -- A run of a counter's image.
-abbrev pub chip_at : Counter → Start → List Sources → ℕ → Chip
-chip_at c start list n = after (program_of (image_of c)) (power_on start) (arrivals_of list) n
+abbrev pub chip_at : Counter → Start → List Outer → ℕ → Chip
+chip_at c start list n = after (program_of (image_of c)) (power_on start) (outer_of list) n
 
-abbrev pub log_of : Counter → Start → List Sources → Log
+abbrev pub log_of : Counter → Start → List Outer → Log
 log_of c start list = run (image_of c) start list
 
 -- What holds after n steps where so much is done and control has come to this address.
-pub record BootAt (c : Counter) (start : Start) (list : List Sources) (target : Reg) (st : Done) (address n : ℕ) : Type 0 where
+pub record BootAt (c : Counter) (start : Start) (list : List Outer) (target : Reg) (st : Done) (address n : ℕ) : Type 0 where
   pub known : known c st (chip_at c start list n) ≡ chip_at c start list n
   pub pc : (chip_at c start list n).pc ≡ address
   pub stored : st.stored ≡ true → (chip_at c start list n).regs.plain state_byte ≡ bits c.init
   pub stands : st.set_up ≡ true → Stands target (byte_of c.setup) (chip_at c start list n).regs
   pub puts : port_writes (log_of c start list) n ≡ cond st.set_up (setup_puts (programs.program_of c)) []
 
-module _ (c : Counter) (fine : IsCounter c) (start : Start) (list : List Sources) (target : Reg) (is_aimed : Aimed c.setup target) where
+module _ (c : Counter) (fine : IsCounter c) (start : Start) (list : List Outer) (target : Reg) (is_aimed : Aimed c.setup target) where
   boot_step : (s : Spot) (st : Done) (address n : ℕ) → BootAt c start list target st address n
       → spot_at (standing_order (kind_of c.setup) (is_peripheral c.source)) address ≡ Some s → needs (kind_of c.setup) s st ≡ st → is_there c s ≡ true
       → Boots c target s st (chip_at c start list n) (log_of c start list n)
   boot_step s st address n h stands need there =
       let x : Chip = chip_at c start list n in
-      let arrivals : Sources = arrivals_of list n in
+      let outer : Outer = outer_of list n in
       let word : ℕ = program_of (image_of c) x.pc in
       let i : Instr = instruction c s in
       let reg : Reg = register_of c target s in
       let same : before c s st x ≡ x = ap (λ t. known c t x) need ∙ h.known in
-      let request : requested (arrived arrivals x.regs) ≡ false = subst (λ y. requested (arrived arrivals y.regs) ≡ false) same (silent c s st x arrivals) in
+      let request : requested (with_outer outer x).regs ≡ false = subst (λ y. requested (with_outer outer y).regs ≡ false) same (silent c s st x outer) in
+      let none_due : x.due ≡ false = sym (ap (λ (y : Chip). y.due) h.known) in
       let its_word : instruction_of word ≡ Some i = ap (λ a. instruction_of (program_of (image_of c) a)) h.pc ∙ found c fine address s stands in
-      let its_register : operand (field i) (arrived arrivals x.regs) ≡ reg = subst (λ y. operand (field i) (arrived arrivals y.regs) ≡ reg) same (reaches c target s st x arrivals is_aimed there) in
-      let runs = runs-it (program_of (image_of c)) arrivals x i reg request its_word its_register in
-      let direct = boots c target s st x arrivals word (spot_fits c target s is_aimed there) in
-      let needed = subst (λ t. Boots c target s t (before c s st x) (running word i reg arrivals (before c s st x))) need direct in
-      let there = subst (λ y. Boots c target s st y (running word i reg arrivals y)) same needed in
+      let its_register : operand (field i) (with_outer outer x).regs ≡ reg = subst (λ y. operand (field i) (with_outer outer y).regs ≡ reg) same (reaches c target s st x outer is_aimed there) in
+      let runs = runs-it (program_of (image_of c)) outer x none_due i reg request its_word its_register in
+      let direct = boots c target s st x outer word (spot_fits c target s is_aimed there) in
+      let needed = subst (λ t. Boots c target s t (before c s st x) (running word i reg outer (before c s st x))) need direct in
+      let there = subst (λ y. Boots c target s st y (running word i reg outer y)) same needed in
       subst (λ step. Boots c target s st x step) (sym runs) there
 
   -- The next of these.

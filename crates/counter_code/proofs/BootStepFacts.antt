@@ -6,12 +6,11 @@ use Rattle.pic_isa.specs.declared.sources.Source.TheVariants.{T0, Int, Psp, Ad, 
 use Rattle.pic_regs.specs.Bytes.{Byte, bits, zeros, updated}
 use Rattle.pic_regs.specs.Map.{Reg, Absent, Status, Intcon, Pie1, Pie2, Port, Tris, Plain, over_tris}
 use Rattle.pic_regs.specs.Registers.{Registers, flag, requested}
-use Rattle.pic_regs.specs.Arrivals.{Sources, arrived}
 use Rattle.pic_machine.specs.declared.steps.PortWrite.{PortWrite}
 use Rattle.pic_machine.specs.Chip.{Chip}
 use Rattle.pic_machine.specs.Results.{shown, written}
-use Rattle.pic_machine.specs.Boundary.{Step}
-use Rattle.pic_machine.proofs.TurnLaws.{running}
+use Rattle.pic_machine.specs.Boundary.{Outer, Step}
+use Rattle.pic_machine.proofs.TurnLaws.{with_outer, running}
 use Rattle.pic_machine.specs.Dids.{is_taking, is_run_at, is_stop}
 use Rattle.counter_code.specs.declared.counters.Counter.{Counter}
 use Rattle.counter_code.specs.Layout.{is_peripheral, state_byte}
@@ -74,6 +73,7 @@ known c st x = record x {
   w = loaded_in c st.loaded x.w;
   top = 0;
   depth = 0;
+  due = false;
   regs = record x.regs {
     status = record x.regs.status { b6 = false; b5 = st.high };
     pclath = record x.regs.pclath { b4 = false; b3 = false };
@@ -178,40 +178,40 @@ fits c target _ = true
 abbrev pub before : Counter → Spot → Done → Chip → Chip
 before c s st x = known c (needs (kind_of c.setup) s st) x
 
-abbrev BootsFrom : Counter → Reg → Spot → Done → Chip → Sources → ℕ → Type 0
-BootsFrom c target s st x arrivals word =
-    Boots c target s (needs (kind_of c.setup) s st) (before c s st x) (running word (instruction c s) (register_of c target s) arrivals (before c s st x))
+abbrev BootsFrom : Counter → Reg → Spot → Done → Chip → Outer → ℕ → Type 0
+BootsFrom c target s st x outer word =
+    Boots c target s (needs (kind_of c.setup) s st) (before c s st x) (running word (instruction c s) (register_of c target s) outer (before c s st x))
 
-jumps : (c : Counter) (target : Reg) (loaded : Loaded) (st : Done) (x : Chip) (arrivals : Sources) (word : ℕ) → BootsFrom c target Jumps (record st { loaded = loaded }) x arrivals word
-jumps c target Nothing st x arrivals word = search
-jumps c target Init st x arrivals word = search
-jumps c target Setup st x arrivals word = search
+jumps : (c : Counter) (target : Reg) (loaded : Loaded) (st : Done) (x : Chip) (outer : Outer) (word : ℕ) → BootsFrom c target Jumps (record st { loaded = loaded }) x outer word
+jumps c target Nothing st x outer word = search
+jumps c target Init st x outer word = search
+jumps c target Setup st x outer word = search
 
-stores_setup : (c : Counter) (target : Reg) (st : Done) (x : Chip) (arrivals : Sources) (word : ℕ) → is_target target ≡ true → BootsFrom c target StoresSetup st x arrivals word
-stores_setup c (Port n) st x arrivals word e = search
-stores_setup c (Tris n) st x arrivals word e = search
-stores_setup c (Plain a) st x arrivals word e = search
-stores_setup c _ st x arrivals word e = absurd cc
+stores_setup : (c : Counter) (target : Reg) (st : Done) (x : Chip) (outer : Outer) (word : ℕ) → is_target target ≡ true → BootsFrom c target StoresSetup st x outer word
+stores_setup c (Port n) st x outer word e = search
+stores_setup c (Tris n) st x outer word e = search
+stores_setup c (Plain a) st x outer word e = search
+stores_setup c _ st x outer word e = absurd cc
 
-enables_high : (source : Source) (c : Counter) (target : Reg) (st : Done) (x : Chip) (arrivals : Sources) (word : ℕ) → is_peripheral source ≡ true
-    → BootsFrom (record c { source = source }) target EnablesHigh st x arrivals word
-enables_high T0 c target st x arrivals word e = absurd cc
-enables_high Int c target st x arrivals word e = absurd cc
-enables_high _ c target st x arrivals word e = search
+enables_high : (source : Source) (c : Counter) (target : Reg) (st : Done) (x : Chip) (outer : Outer) (word : ℕ) → is_peripheral source ≡ true
+    → BootsFrom (record c { source = source }) target EnablesHigh st x outer word
+enables_high T0 c target st x outer word e = absurd cc
+enables_high Int c target st x outer word e = absurd cc
+enables_high _ c target st x outer word e = search
 
-enables : (source : Source) (c : Counter) (target : Reg) (st : Done) (x : Chip) (arrivals : Sources) (word : ℕ) → BootsFrom (record c { source = source }) target Enables st x arrivals word
-enables T0 c target st x arrivals word = search
-enables _ c target st x arrivals word = search
+enables : (source : Source) (c : Counter) (target : Reg) (st : Done) (x : Chip) (outer : Outer) (word : ℕ) → BootsFrom (record c { source = source }) target Enables st x outer word
+enables T0 c target st x outer word = search
+enables _ c target st x outer word = search
 
-pub boots : (c : Counter) (target : Reg) (s : Spot) (st : Done) (x : Chip) (arrivals : Sources) (word : ℕ) → fits c target s ≡ true → BootsFrom c target s st x arrivals word
-boots c target StoresSetup st x arrivals word e = stores_setup c target st x arrivals word e
-boots c target EnablesHigh st x arrivals word e = enables_high c.source c target st x arrivals word e
-boots c target Enables st x arrivals word e = enables c.source c target st x arrivals word
-boots c target Jumps st x arrivals word e = jumps c target st.loaded st x arrivals word
-boots c target (At place) st x arrivals word e = absurd cc
-boots c target _ st x arrivals word e = search
+pub boots : (c : Counter) (target : Reg) (s : Spot) (st : Done) (x : Chip) (outer : Outer) (word : ℕ) → fits c target s ≡ true → BootsFrom c target s st x outer word
+boots c target StoresSetup st x outer word e = stores_setup c target st x outer word e
+boots c target EnablesHigh st x outer word e = enables_high c.source c target st x outer word e
+boots c target Enables st x outer word e = enables c.source c target st x outer word
+boots c target Jumps st x outer word e = jumps c target st.loaded st x outer word
+boots c target (At place) st x outer word e = absurd cc
+boots c target _ st x outer word e = search
 
 -- Nothing is requested then, with GIE off.
-pub silent : (c : Counter) (s : Spot) (st : Done) (x : Chip) (arrivals : Sources) → requested (arrived arrivals (before c s st x).regs) ≡ false
-silent c StoresInit st x arrivals = refl
-silent c _ st x arrivals = refl
+pub silent : (c : Counter) (s : Spot) (st : Done) (x : Chip) (outer : Outer) → requested (with_outer outer (before c s st x)).regs ≡ false
+silent c StoresInit st x outer = refl
+silent c _ st x outer = refl

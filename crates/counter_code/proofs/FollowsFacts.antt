@@ -1,20 +1,20 @@
 -- A counter whose log tells its story follows its program, over the first n steps for every n.
-use Rattle.std.specs.Prelude.{ℕ, suc, ◌≤◌, ◌<◌, Bool, true, false, List, [], ◌∷◌, ◌++◌, Some, flat_map, take, ◌&&◌, ◌⊎◌}
+use Rattle.std.specs.Prelude.{ℕ, suc, ◌≤◌, ◌<◌, Bool, true, false, List, [], ◌∷◌, ◌++◌, Some, flat_map, map, take, ◌⊎◌}
 use Rattle.std.proofs.Common.{◌≡◌, refl, sym, ◌∙◌, ap, inl, inr, arith, append-nil}
 use Rattle.efrp_meaning.specs.Meaning.{Reaction, react, state_after, ports_after}
-use Rattle.pic_regs.specs.Registers.{flag}
 use Rattle.pic_machine.specs.Run.{Log}
 use Rattle.counter_code.specs.declared.counters.Counter.{Counter}
 use Rattle.counter_code.specs.Counters.{IsCounter, program_of}
 use Rattle.counter_code.specs.Maps.{map_of}
 use Rattle.firmware_promises.specs.MapNames.{states_in}
-use Rattle.firmware_promises.specs.Counts.{chip_after, takes, opened_by, committed_by, opens, commits}
+use Rattle.firmware_promises.specs.Counts.{chip_after, takes, opened_by, committed_by, commits, window_samples, reactions}
 use Rattle.firmware_promises.specs.Ready.{ShowsReady, ReadyAt, BeforeReady}
 use Rattle.firmware_promises.specs.Follows.{Follows, ReadyInTime, BootIsQuiet, Alternates, NoTakingInside, ClosesInTime, StatesAreSerial, PutsAreSerial, PutsAre, BootPutsSetups, NoWindow, Window, setup_puts, reaction_puts}
 use Rattle.firmware_promises.proofs.CountLaws.{one_more}
 use Rattle.firmware_promises.proofs.ListLaws.{no_longer, same_last}
+use Rattle.firmware_promises.proofs.SampleLaws.{unsampled, no_samples, reactions_are_commits, windows_are_sampled}
 use Rattle.firmware_promises.proofs.ReadyLaws.{before_or_from, not_ready_before, unready}
-use Rattle.counter_code.proofs.SerialFacts.{events, value, values, reaction_from, state_is, ports_are, reacts, puts_values}
+use Rattle.counter_code.proofs.SerialFacts.{events, occurrences, occurrences_are, value, values, reaction_from, state_is, ports_are, reacts, puts_values}
 use Rattle.counter_code.proofs.PastFacts.{from_ready, each_moment}
 use Rattle.counter_code.proofs.ReactionFacts.{opened, committed, named, window_is, opened_in_boot, committed_in_boot, opens_in_boot, commits_in_boot, opened_at, committed_at, opens_are, commits_are, value_is, writes_are}
 use Rattle.counter_code.proofs.StoryFacts.{Place, Rests, Opens, rests, is_opening, is_committing, next, past, Story}
@@ -42,6 +42,11 @@ named_is c false e h = absurd (let it : [] ≡ e ∷ [] = h in cc)
 busy : (here : Place) → is_committing here ≡ true → rests here ≡ false
 busy Rests h = absurd cc
 busy here h = refl
+
+-- Nothing is taken there.
+untaken : (taken : Bool) (here : Place) → (taken ≡ true → rests here ≡ true) → rests here ≡ false → taken ≡ false
+untaken true here only is_busy = absurd (let no : ◌≡◌ {A = Bool} true false = sym (only refl) ∙ is_busy in cc)
+untaken false here only is_busy = refl
 
 -- An open is followed by its commit.
 commit_is_next : (takes : Bool) (here : Place) → is_opening here ≡ true → is_committing (next takes here) ≡ true
@@ -79,11 +84,11 @@ module _ (c : Counter) (log : Log) (story : Story c log) (n : ℕ) where
   setups : BootPutsSetups (program_of c) (map_of c) log n
   setups k h before = story.boot_puts k (let is_before = in_boot k h before in omega arith)
 
--- In a window a front of what the reaction puts is put.
-abbrev PutsFront : Counter → Log → ℕ → List ℕ → Type 0
-PutsFront c log k e =
+-- In a window a prefix of what the reaction puts is put.
+abbrev PutsPrefix : Counter → Log → ℕ → List ℕ → Type 0
+PutsPrefix c log k e =
     (state : List ℕ) × (reaction : Reaction) × (i : ℕ)
-    × (state_after (program_of c) (commits (map_of c) log k) ≡ Some state) × (react (program_of c) state e ≡ Some reaction)
+    × (state_after (program_of c) (reactions (program_of c) (map_of c) log k) ≡ Some state) × (react (program_of c) state (window_samples (program_of c) (map_of c) log e k) e ≡ Some reaction)
     × PutsAre (program_of c) (map_of c) log k (take i (reaction_puts (program_of c) reaction.ports))
 
 module _ (c : Counter) (log : Log) (story : Story c log) (k : ℕ) where
@@ -107,7 +112,7 @@ module _ (c : Counter) (log : Log) (story : Story c log) (k : ℕ) where
 
   undisturbed_at : (e : List ℕ) → Window (map_of c) log (past story.ready k) e → takes (log (past story.ready k)) ≡ false
   undisturbed_at e is_open =
-      story.takes_when k ∙ ap (λ b. b && flag c.source (log (past story.ready k)).arrived.regs) (busy (story.place k) (window_at e is_open).0)
+      untaken (takes (log (past story.ready k))) (story.place k) (λ taken. (story.takes_only k taken).0) (busy (story.place k) (window_at e is_open).0)
 
   closes_at : (e : List ℕ) → opened_by (map_of c) (log (past story.ready k)) ≡ e ∷ [] → committed_by (map_of c) (log (past story.ready (suc k))) ≡ e ∷ []
   closes_at e opens =
@@ -119,25 +124,31 @@ module _ (c : Counter) (log : Log) (story : Story c log) (k : ℕ) where
   as_often : NoWindow (map_of c) log (past story.ready k) → opened story.place k ≡ committed story.place k
   as_often none = window_is c log story k ∙ ap (λ b. one_more b (committed story.place k)) (no_window_at none)
 
-  state_at : IsCounter c → state_after (program_of c) (commits (map_of c) log (past story.ready k)) ≡ Some (value c (committed story.place k) ∷ [])
-  state_at is = ap (state_after (program_of c)) (commits_are c log story k) ∙ state_is c is (committed story.place k)
+  -- The reactions are those of its events, with no samples.
+  reactions_are : reactions (program_of c) (map_of c) log (past story.ready k) ≡ occurrences c (committed story.place k)
+  reactions_are = reactions_are_commits (program_of c) (map_of c) log refl (past story.ready k) ∙ ap (map unsampled) (commits_are c log story k) ∙ occurrences_are c (committed story.place k)
+
+  state_at : IsCounter c → state_after (program_of c) (reactions (program_of c) (map_of c) log (past story.ready k)) ≡ Some (value c (committed story.place k) ∷ [])
+  state_at is = ap (state_after (program_of c)) reactions_are ∙ state_is c is (committed story.place k)
 
   serial_at : IsCounter c → NoWindow (map_of c) log (past story.ready k)
-      → state_after (program_of c) (commits (map_of c) log (past story.ready k)) ≡ Some (states_in (map_of c) (chip_after log (past story.ready k)))
+      → state_after (program_of c) (reactions (program_of c) (map_of c) log (past story.ready k)) ≡ Some (states_in (map_of c) (chip_after log (past story.ready k)))
   serial_at is none = state_at is ∙ ap (λ v. Some (v ∷ [])) (sym (value_is c log story k ∙ ap (value c) (as_often none)))
 
   -- Nothing of a reaction is put before its commit.
   puts_at : IsCounter c → PutsAre (program_of c) (map_of c) log (past story.ready k) []
   puts_at is = (
     values c (committed story.place k),
-    ap (ports_after (program_of c)) (commits_are c log story k) ∙ ports_are c is (committed story.place k),
+    ap (ports_after (program_of c)) reactions_are ∙ ports_are c is (committed story.place k),
     writes_are c log story k ∙ ap (λ puts. setup_puts (program_of c) ++ puts) (sym (puts_values c is (committed story.place k)) ∙ sym (append-nil (flat_map (reaction_puts (program_of c)) (values c (committed story.place k))))),
   )
 
-  puts_in_window : IsCounter c → (e : List ℕ) → Window (map_of c) log (past story.ready k) e → PutsFront c log (past story.ready k) e
+  puts_in_window : IsCounter c → (e : List ℕ) → Window (map_of c) log (past story.ready k) e → PutsPrefix c log (past story.ready k) e
   puts_in_window is e is_open =
       let v = value c (committed story.place k) in
-      (v ∷ [], reaction_from c v, 0, state_at is, ap (react (program_of c) (v ∷ [])) (window_at e is_open).1 ∙ reacts c is v, puts_at is)
+      let its_name : e ≡ c.event = (window_at e is_open).1 in
+      let sampled = no_samples (program_of c) (map_of c) log refl e (past story.ready k) in
+      (v ∷ [], reaction_from c v, 0, state_at is, (λ i. react (program_of c) (v ∷ []) (sampled i) (its_name i)) ∙ reacts c is v, puts_at is)
 
 module _ (c : Counter) (log : Log) (is : IsCounter c) (story : Story c log) (n : ℕ) where
   turns : Alternates (map_of c) log n
@@ -159,14 +170,14 @@ module _ (c : Counter) (log : Log) (is : IsCounter c) (story : Story c log) (n :
 
   states : StatesAreSerial (program_of c) (map_of c) log n
   states r k is_it from to =
-      from_ready story.ready (λ k. NoWindow (map_of c) log k → state_after (program_of c) (commits (map_of c) log k) ≡ Some (states_in (map_of c) (chip_after log k)))
+      from_ready story.ready (λ k. NoWindow (map_of c) log k → state_after (program_of c) (reactions (program_of c) (map_of c) log k) ≡ Some (states_in (map_of c) (chip_after log k)))
       (λ k. serial_at c log story k is) k (let h = ready_from c log story n r is_it in omega arith)
 
   puts : PutsAreSerial (program_of c) (map_of c) log n
   puts r k is_it from to =
       let past_ready : story.ready ≤ k = (let h = ready_from c log story n r is_it in omega arith) in (
         (λ none. from_ready story.ready (λ k. PutsAre (program_of c) (map_of c) log k []) (λ k. puts_at c log story k is) k past_ready),
-        from_ready story.ready (λ k. (e : List ℕ) → Window (map_of c) log k e → PutsFront c log k e) (λ k. puts_in_window c log story k is) k past_ready,
+        from_ready story.ready (λ k. (e : List ℕ) → Window (map_of c) log k e → PutsPrefix c log k e) (λ k. puts_in_window c log story k is) k past_ready,
       )
 
 pub story-follows : (c : Counter) (log : Log) → IsCounter c → Story c log → (n : ℕ) → Follows (program_of c) (map_of c) log n
@@ -179,4 +190,5 @@ story-follows c log is story n = record {
   states = states c log is story n;
   puts = puts c log is story n;
   setups = setups c log story n;
+  samples = windows_are_sampled (program_of c) (map_of c) log refl n;
 }

@@ -33,6 +33,7 @@ pub names_rightly : (c : Counter) → IsCounter c → Names (program_of c) (imag
 names_rightly c fine = record {
   events = refl;
   states = refl;
+  samples = refl;
   outputs = ap (λ port. port ∷ []) (sym (port_called_back c.port fine.port));
   code_differs = ((λ e. omega (arith, e, boot_at_least c), (λ e. omega (arith, e, boot_at_least c), tt)), ((λ e. omega (arith, e), tt), (tt, tt)));
   code_is_there = (

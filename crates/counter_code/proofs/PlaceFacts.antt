@@ -4,14 +4,13 @@ use Rattle.std.proofs.Common.{◌≡◌, refl, sym, ap, subst, ◌∙◌, arith}
 use Rattle.pic_isa.specs.declared.sources.Source.{Source}
 use Rattle.pic_regs.specs.Bytes.{Byte, bits, num, one_if}
 use Rattle.pic_regs.specs.Map.{Reg}
-use Rattle.pic_regs.specs.Registers.{flag, byte_at}
-use Rattle.pic_regs.specs.Arrivals.{Sources, arrived}
+use Rattle.pic_regs.specs.Registers.{flag, requested, byte_at}
 use Rattle.pic_regs.proofs.ArrivalLaws.{flag-arrived}
 use Rattle.pic_regs.proofs.ByteLaws.{num-bits}
 use Rattle.pic_machine.specs.Chip.{Chip}
-use Rattle.pic_machine.specs.Boundary.{Step, boundary}
+use Rattle.pic_machine.specs.Boundary.{Outer, Step, boundary}
 use Rattle.pic_machine.specs.Run.{program_of}
-use Rattle.pic_machine.proofs.TurnLaws.{flag-latched}
+use Rattle.pic_machine.proofs.TurnLaws.{with_outer, taking, takes-due, takes-it, flag-latched}
 use Rattle.pic_machine.specs.Dids.{is_taking, is_run_at, is_stop}
 use Rattle.counter_code.specs.declared.counters.Counter.{Counter}
 use Rattle.counter_code.specs.Counters.{IsCounter}
@@ -24,11 +23,11 @@ use Rattle.counter_code.proofs.SpotFacts.{Kind, NoSetup, LowSetup, HighSetup, ki
 use Rattle.counter_code.proofs.TargetFacts.{Aimed}
 use Rattle.counter_code.proofs.WriteFacts.{Listed, place_listed}
 use Rattle.counter_code.proofs.PlaceStepFacts.{Runs, Takes}
-use Rattle.counter_code.proofs.PlaceRunFacts.{Stays, address_at, runs_here, takes_here, request_here, silent_here, after_run, after_taking}
+use Rattle.counter_code.proofs.PlaceRunFacts.{Stays, address_at, runs_here, delays_here, takes_here, request_here, silent_here, none_due_here, after_run, after_taking}
 
 -- What a step is, from a place, on a chip.
 pub record Facts (c : Counter) (place : Place) (x : Chip) (step : Step) : Type 0 where
-  pub takes_when : counts.takes step ≡ (rests place && flag c.source step.arrived.regs)
+  pub takes_only : counts.takes step ≡ true → (rests place ≡ true) × (flag c.source step.arrived.regs ≡ true)
   pub opens_when : ran_at open_address step ≡ is_opening place
   pub commits_when : ran_at commit_address step ≡ is_committing place
   pub clears_when : clears c.source step ≡ is_clearing place
@@ -70,13 +69,13 @@ and_not false = refl
 pub not_cleared : (source : Source) (step : Step) → flag source step.after.regs ≡ flag source step.arrived.regs → clears source step ≡ false
 not_cleared source step same = ap (λ b. flag source step.arrived.regs && not b) same ∙ and_not (flag source step.arrived.regs)
 
-pub ledger_of : (program : ℕ → ℕ) (arrivals : Sources) (x : Chip) (source : Source) →
-    flag source (boundary program arrivals x).after.regs ≡ flag source (boundary program arrivals x).arrived.regs
-    → one_if (flag source x.regs) + one_if (latches source (boundary program arrivals x))
-    ≡ one_if (flag source (boundary program arrivals x).after.regs) + one_if (clears source (boundary program arrivals x))
-ledger_of program arrivals x source same =
-    let step : Step = boundary program arrivals x in
-    let latched : one_if (flag source x.regs) + one_if (latches source step) ≡ one_if (flag source step.arrived.regs) = flag-latched source arrivals x in
+pub ledger_of : (program : ℕ → ℕ) (outer : Outer) (x : Chip) (source : Source) →
+    flag source (boundary program outer x).after.regs ≡ flag source (boundary program outer x).arrived.regs
+    → one_if (flag source x.regs) + one_if (latches source (boundary program outer x))
+    ≡ one_if (flag source (boundary program outer x).after.regs) + one_if (clears source (boundary program outer x))
+ledger_of program outer x source same =
+    let step : Step = boundary program outer x in
+    let latched : one_if (flag source x.regs) + one_if (latches source step) ≡ one_if (flag source step.arrived.regs) = flag-latched source outer x in
     let after : one_if (flag source step.after.regs) ≡ one_if (flag source step.arrived.regs) = ap one_if same in
     let none : one_if (clears source step) ≡ 0 = ap one_if (not_cleared source step same) in
     omega (arith, latched, after, none)
@@ -94,88 +93,108 @@ grown c small x =
     num-bits (num (bits c.step) + num x) ∙ (let e : (num (bits c.step) + num x) % 256 ≡ (num x + c.step) % 256 = omega (arith, step, small) in e)
 
 module _ (c : Counter) (fine : IsCounter c) (target : Reg) (is_aimed : Aimed c.setup target) where
-  abbrev step_from : Sources → Chip → Step
-  step_from arrivals x = boundary (program_of (image_of c)) arrivals x
+  abbrev step_from : Outer → Chip → Step
+  step_from outer x = boundary (program_of (image_of c)) outer x
 
-  values_of : (place : Place) (x : Chip) (step : Step) → Stays c target place x → Runs c place x step → byte_at step.after.regs state_byte ≡ value_after c place (byte_at x.regs state_byte)
-  values_of Opens x step h r = ap (λ (memory : ℕ → Byte). num (memory state_byte)) r.plain ∙ ap num h.w ∙ grown c fine.step (x.regs.plain state_byte)
-  values_of _ x step h r = ap (λ (memory : ℕ → Byte). num (memory state_byte)) r.plain
+  values_of : (place : Place) (due : Bool) (x : Chip) (step : Step) → Stays c target place x → Runs c place due x step → byte_at step.after.regs state_byte ≡ value_after c place (byte_at x.regs state_byte)
+  values_of Opens due x step h r = ap (λ (memory : ℕ → Byte). num (memory state_byte)) r.plain ∙ ap num h.w ∙ grown c fine.step (x.regs.plain state_byte)
+  values_of _ due x step h r = ap (λ (memory : ℕ → Byte). num (memory state_byte)) r.plain
 
-  puts_of : (place : Place) (x : Chip) (step : Step) → Stays c target place x → Runs c place x step → put_by step.port ≡ puts_at c place (byte_at x.regs state_byte)
-  puts_of Commits x step h r = ap put_by r.port ∙ ap (λ w. put_by (Some (record { port = c.port; byte = num w }))) h.w
-  puts_of _ x step h r = ap put_by r.port
+  puts_of : (place : Place) (due : Bool) (x : Chip) (step : Step) → Stays c target place x → Runs c place due x step → put_by step.port ≡ puts_at c place (byte_at x.regs state_byte)
+  puts_of Commits due x step h r = ap put_by r.port ∙ ap (λ w. put_by (Some (record { port = c.port; byte = num w }))) h.w
+  puts_of _ due x step h r = ap put_by r.port
 
   -- The flag: it is cleared by the instruction that clears it, and there alone.
-  clears_of : (place : Place) (x : Chip) (arrivals : Sources) → Stays c target place x → Runs c place x (step_from arrivals x) → clears c.source (step_from arrivals x) ≡ is_clearing place
-  clears_of Clears x arrivals h r = cleared c.source (step_from arrivals x) (flag-arrived c.source arrivals x.regs ∙ still_set (arrivals c.source) (flag c.source x.regs) (h.flagged refl)) r.flags
-  clears_of _ x arrivals h r = not_cleared c.source (step_from arrivals x) r.flags
+  clears_of : (place : Place) (due : Bool) (x : Chip) (outer : Outer) → Stays c target place x → Runs c place due x (step_from outer x) → clears c.source (step_from outer x) ≡ is_clearing place
+  clears_of Clears due x outer h r = cleared c.source (step_from outer x) (flag-arrived c.source outer.arrivals x.regs ∙ still_set (outer.arrivals c.source) (flag c.source x.regs) (h.flagged refl)) r.flags
+  clears_of _ due x outer h r = not_cleared c.source (step_from outer x) r.flags
 
   abbrev Ledger : Chip → Step → Type 0
   Ledger x step = one_if (flag c.source x.regs) + one_if (latches c.source step) ≡ one_if (flag c.source step.after.regs) + one_if (clears c.source step)
 
-  ledger_at : (place : Place) (x : Chip) (arrivals : Sources) → Stays c target place x → Runs c place x (step_from arrivals x) → Ledger x (step_from arrivals x)
-  ledger_at Clears x arrivals h r =
-      let step : Step = step_from arrivals x in
-      let latched : one_if (flag c.source x.regs) + one_if (latches c.source step) ≡ one_if (flag c.source step.arrived.regs) = flag-latched c.source arrivals x in
-      let was : one_if (flag c.source step.arrived.regs) ≡ 1 = ap one_if (flag-arrived c.source arrivals x.regs ∙ still_set (arrivals c.source) (flag c.source x.regs) (h.flagged refl)) in
+  ledger_at : (place : Place) (due : Bool) (x : Chip) (outer : Outer) → Stays c target place x → Runs c place due x (step_from outer x) → Ledger x (step_from outer x)
+  ledger_at Clears due x outer h r =
+      let step : Step = step_from outer x in
+      let latched : one_if (flag c.source x.regs) + one_if (latches c.source step) ≡ one_if (flag c.source step.arrived.regs) = flag-latched c.source outer x in
+      let was : one_if (flag c.source step.arrived.regs) ≡ 1 = ap one_if (flag-arrived c.source outer.arrivals x.regs ∙ still_set (outer.arrivals c.source) (flag c.source x.regs) (h.flagged refl)) in
       let now : one_if (flag c.source step.after.regs) ≡ 0 = ap one_if r.flags in
-      let one : one_if (clears c.source step) ≡ 1 = ap one_if (clears_of Clears x arrivals h r) in
+      let one : one_if (clears c.source step) ≡ 1 = ap one_if (clears_of Clears due x outer h r) in
       omega (arith, latched, was, now, one)
-  ledger_at _ x arrivals h r = ledger_of (program_of (image_of c)) arrivals x c.source r.flags
+  ledger_at _ due x outer h r = ledger_of (program_of (image_of c)) outer x c.source r.flags
 
   -- A step that runs the place's instruction, where nothing is taken.
-  run_facts : (place : Place) (x : Chip) (arrivals : Sources) → Stays c target place x → Runs c place x (step_from arrivals x)
-      → false ≡ (rests place && flag c.source (step_from arrivals x).arrived.regs) → Facts c place x (step_from arrivals x)
-  run_facts place x arrivals h r none = record {
-    takes_when = r.taking ∙ none;
+  run_facts : (place : Place) (due : Bool) (x : Chip) (outer : Outer) → Stays c target place x → Runs c place due x (step_from outer x) → Facts c place x (step_from outer x)
+  run_facts place due x outer h r = record {
+    takes_only = λ e. absurd (let no : ◌≡◌ {A = Bool} false true = sym r.taking ∙ e in cc);
     opens_when = r.ran open_address ∙ ap (λ a. a == 7) h.pc ∙ opens_there c place;
     commits_when = r.ran commit_address ∙ ap (λ a. a == 8) h.pc ∙ commits_there c place;
-    clears_when = clears_of place x arrivals h r;
+    clears_when = clears_of place due x outer h r;
     on_when = r.on;
     hears_when = r.hears;
-    values = values_of place x (step_from arrivals x) h r;
-    puts = puts_of place x (step_from arrivals x) h r;
-    ledger = ledger_at place x arrivals h r;
+    values = values_of place due x (step_from outer x) h r;
+    puts = puts_of place due x (step_from outer x) h r;
+    ledger = ledger_at place due x outer h r;
     goes_on = r.stop;
     listed = subst (Listed c) (sym r.wrote) (place_listed c place fine.port);
   }
 
-  take_facts : (x : Chip) (arrivals : Sources) → Takes c x (step_from arrivals x) → flag c.source (step_from arrivals x).arrived.regs ≡ true → Facts c Rests x (step_from arrivals x)
-  take_facts x arrivals t is_set = record {
-    takes_when = ap is_taking t.did ∙ sym is_set;
+  take_facts : (x : Chip) (outer : Outer) → Takes c x (step_from outer x) → flag c.source (step_from outer x).arrived.regs ≡ true → Facts c Rests x (step_from outer x)
+  take_facts x outer t is_set = record {
+    takes_only = λ e. (refl, is_set);
     opens_when = ap (is_run_at open_address) t.did;
     commits_when = ap (is_run_at commit_address) t.did;
-    clears_when = not_cleared c.source (step_from arrivals x) t.flags;
+    clears_when = not_cleared c.source (step_from outer x) t.flags;
     on_when = t.on;
     hears_when = t.hears;
     values = ap (λ (memory : ℕ → Byte). num (memory state_byte)) t.plain;
     puts = ap put_by t.port;
-    ledger = ledger_of (program_of (image_of c)) arrivals x c.source t.flags;
+    ledger = ledger_of (program_of (image_of c)) outer x c.source t.flags;
     goes_on = ap is_stop t.did;
     listed = subst (Listed c) (sym t.wrote) tt;
   }
 
   -- Each step from a place has these facts, and leads to the next place.
-  abbrev Led : Place → Sources → Chip → Type 0
-  Led place arrivals x = Facts c place x (step_from arrivals x) × Stays c target (next (counts.takes (step_from arrivals x)) place) (step_from arrivals x).after
+  abbrev Led : Place → Outer → Chip → Type 0
+  Led place outer x = Facts c place x (step_from outer x) × Stays c target (next (counts.takes (step_from outer x)) place) (step_from outer x).after
 
-  led_on : (place : Place) (x : Chip) (arrivals : Sources) → Stays c target place x → rests place ≡ false → Led place arrivals x
-  led_on place x arrivals h inside =
-      let step : Step = step_from arrivals x in
-      let r = runs_here c fine target is_aimed place x arrivals h (silent_here c fine target is_aimed place x arrivals h inside) in
-      let none : false ≡ (rests place && flag c.source step.arrived.regs) = ap (λ b. b && flag c.source step.arrived.regs) (sym inside) in
-      (run_facts place x arrivals h r none, subst (λ b. Stays c target (next b place) step.after) (sym (r.taking)) (after_run c fine target is_aimed place x step h r))
+  -- It runs the place's instruction where nothing is requested or due.
+  led_run : (place : Place) (x : Chip) (outer : Outer) → Stays c target place x → x.due ≡ false → requested (with_outer outer x).regs ≡ false → Led place outer x
+  led_run place x outer h none_due request =
+      let step : Step = step_from outer x in
+      let r = runs_here c fine target is_aimed place x outer h none_due request in
+      let next_place = after_run c fine target is_aimed place x.due x step h r (λ e. absurd (let no : ◌≡◌ {A = Bool} false true = sym none_due ∙ e in cc)) in
+      (run_facts place x.due x outer h r, subst (λ b. Stays c target (next b place) step.after) (sym r.taking) next_place)
 
-  led_by : (x : Chip) (arrivals : Sources) → Stays c target Rests x → (is_set : Bool) → flag c.source (arrived arrivals x.regs) ≡ is_set → Led Rests arrivals x
-  led_by x arrivals h true e =
-      let step : Step = step_from arrivals x in
-      let t = takes_here c fine target is_aimed x arrivals h (request_here c fine target is_aimed x arrivals h ∙ e) in
-      (take_facts x arrivals t e, subst (λ b. Stays c target (next b Rests) step.after) (sym (ap is_taking t.did)) (after_taking c fine target is_aimed x step h t e))
-  led_by x arrivals h false e =
-      let step : Step = step_from arrivals x in
-      let r = runs_here c fine target is_aimed Rests x arrivals h (request_here c fine target is_aimed x arrivals h ∙ e) in
-      (run_facts Rests x arrivals h r (sym e), subst (λ b. Stays c target (next b Rests) step.after) (sym (r.taking)) (after_run c fine target is_aimed Rests x step h r))
+  -- Where control rests and the flag is set, an interrupt is taken, or the jump runs once more and then one is due.
+  led_take : (x : Chip) (outer : Outer) → Stays c target Rests x → step_from outer x ≡ taking outer x → flag c.source (with_outer outer x).regs ≡ true → Led Rests outer x
+  led_take x outer h is_it is_set =
+      let step : Step = step_from outer x in
+      let t = takes_here c fine target is_aimed x outer h is_it in
+      (take_facts x outer t is_set, subst (λ b. Stays c target (next b Rests) step.after) (sym (ap is_taking t.did)) (after_taking c fine target is_aimed x step h t is_set))
 
-  pub led : (place : Place) (x : Chip) (arrivals : Sources) → Stays c target place x → Led place arrivals x
-  led Rests x arrivals h = led_by x arrivals h (flag c.source (arrived arrivals x.regs)) refl
-  led place x arrivals h = led_on place x arrivals h refl
+  led_delay : (x : Chip) (outer : Outer) → Stays c target Rests x → x.due ≡ false → requested (with_outer outer x).regs ≡ true → outer.late ≡ true → flag c.source (with_outer outer x).regs ≡ true
+      → Led Rests outer x
+  led_delay x outer h none_due request late is_set =
+      let step : Step = step_from outer x in
+      let r = delays_here c fine target is_aimed x outer h none_due request late in
+      (run_facts Rests true x outer h r, subst (λ b. Stays c target (next b Rests) step.after) (sym r.taking) (after_run c fine target is_aimed Rests true x step h r (λ e. r.flags ∙ is_set)))
+
+  led_asked : (x : Chip) (outer : Outer) → Stays c target Rests x → x.due ≡ false → (late is_set : Bool) → outer.late ≡ late → flag c.source (with_outer outer x).regs ≡ is_set → Led Rests outer x
+  led_asked x outer h none_due late false is_late e = led_run Rests x outer h none_due (request_here c fine target is_aimed x outer h ∙ e)
+  led_asked x outer h none_due true true is_late e = led_delay x outer h none_due (request_here c fine target is_aimed x outer h ∙ e) is_late e
+  led_asked x outer h none_due false true is_late e =
+      led_take x outer h (takes-it (program_of (image_of c)) outer x none_due (request_here c fine target is_aimed x outer h ∙ e) is_late) e
+
+  led_resting : (x : Chip) (outer : Outer) → Stays c target Rests x → (due : Bool) → x.due ≡ due → Led Rests outer x
+  led_resting x outer h true is_due =
+      led_take x outer h (takes-due (program_of (image_of c)) outer x is_due)
+      (flag-arrived c.source outer.arrivals x.regs ∙ still_set (outer.arrivals c.source) (flag c.source x.regs) (h.flagged is_due))
+  led_resting x outer h false none_due = led_asked x outer h none_due outer.late (flag c.source (with_outer outer x).regs) refl refl
+
+  led_inside : (place : Place) (x : Chip) (outer : Outer) → Stays c target place x → rests place ≡ false → Led place outer x
+  led_inside place x outer h inside =
+      led_run place x outer h (none_due_here c fine target is_aimed place x h inside) (silent_here c fine target is_aimed place x outer h inside)
+
+  pub led : (place : Place) (x : Chip) (outer : Outer) → Stays c target place x → Led place outer x
+  led Rests x outer h = led_resting x outer h x.due refl
+  led place x outer h = led_inside place x outer h refl

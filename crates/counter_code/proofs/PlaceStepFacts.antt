@@ -7,14 +7,13 @@ use Rattle.pic_isa.specs.declared.sources.Source.TheVariants.{T0, Int, Ee, Bcl, 
 use Rattle.pic_regs.specs.Bytes.{Byte, bits, num, updated}
 use Rattle.pic_regs.specs.Map.{Reg, Absent, Intcon, Pir1, Pir2, Port, Plain}
 use Rattle.pic_regs.specs.Registers.{flag, requested}
-use Rattle.pic_regs.specs.Arrivals.{Sources, arrived}
 use Rattle.pic_machine.specs.declared.steps.Did.TheVariants.{Took}
 use Rattle.pic_machine.specs.declared.steps.PortWrite.{PortWrite}
 use Rattle.pic_machine.specs.Chip.{Chip}
 use Rattle.pic_machine.specs.Results.{shown, written}
 use Rattle.pic_machine.specs.Exec.{field, operand}
-use Rattle.pic_machine.specs.Boundary.{Step}
-use Rattle.pic_machine.proofs.TurnLaws.{running, taking}
+use Rattle.pic_machine.specs.Boundary.{Outer, Step}
+use Rattle.pic_machine.proofs.TurnLaws.{with_outer, running, delaying, taking}
 use Rattle.pic_machine.specs.Dids.{is_taking, is_run_at, is_stop}
 use Rattle.counter_code.specs.declared.counters.Counter.{Counter}
 use Rattle.counter_code.specs.Layout.{state_byte, ready_address}
@@ -29,11 +28,17 @@ abbrev pub depth_at : Place → ℕ
 depth_at Rests = 0
 depth_at _ = 1
 
+-- An interrupt may be due at the ready address, and nowhere else.
+abbrev pub due_at : Place → Bool → Bool
+due_at Rests due = due
+due_at _ due = false
+
 -- The chip with what is known at a place.
 abbrev pub held : Counter → Place → Chip → Chip
 held c place x = record x {
   top = depth_at place;
   depth = depth_at place;
+  due = due_at place x.due;
   regs = record x.regs {
     status = record x.regs.status { b6 = false; b5 = false };
     pclath = record x.regs.pclath { b4 = false; b3 = false };
@@ -86,8 +91,8 @@ abbrev pub flag_left : Place → Bool → Bool
 flag_left Clears is_set = false
 flag_left _ is_set = is_set
 
--- What a step is that runs the instruction of a place.
-pub record Runs (c : Counter) (place : Place) (x : Chip) (step : Step) : Type 0 where
+-- What a step is that runs the instruction of a place, and leaves an interrupt due, or none.
+pub record Runs (c : Counter) (place : Place) (due : Bool) (x : Chip) (step : Step) : Type 0 where
   pub taking : is_taking step.did ≡ false
   pub stop : is_stop step.did ≡ false
   pub ran : (address : ℕ) → is_run_at address step.did ≡ (x.pc == address)
@@ -97,27 +102,39 @@ pub record Runs (c : Counter) (place : Place) (x : Chip) (step : Step) : Type 0 
   pub wrote : step.wrote ≡ wrote_at c place
   pub port : step.port ≡ shown_by c place x.w
   pub done : held c (next false place) step.after ≡ step.after
+  pub leaves_due : step.after.due ≡ due
   pub pc : step.after.pc ≡ pc_after c place x
   pub stack : step.after.stack ≡ x.stack
   pub w : step.after.w ≡ w_after c place x
   pub plain : step.after.regs.plain ≡ plain_after place x
   pub tris : step.after.regs.tris ≡ x.regs.tris
 
-abbrev RunsFrom : Counter → Place → Chip → Sources → ℕ → Type 0
-RunsFrom c place x arrivals word = Runs c place (held c place x) (running word (instruction_at c place) (register_at c place) arrivals (held c place x))
+abbrev RunsFrom : Counter → Place → Chip → Outer → ℕ → Type 0
+RunsFrom c place x outer word = Runs c place (due_at place x.due) (held c place x) (running word (instruction_at c place) (register_at c place) outer (held c place x))
 
-clears : (source : Source) (c : Counter) (x : Chip) (arrivals : Sources) (word : ℕ) → RunsFrom (record c { source = source }) Clears x arrivals word
-clears T0 c x arrivals word = search
-clears _ c x arrivals word = search
+clears : (source : Source) (c : Counter) (x : Chip) (outer : Outer) (word : ℕ) → RunsFrom (record c { source = source }) Clears x outer word
+clears T0 c x outer word = search
+clears _ c x outer word = search
 
-rests_on : (source : Source) (c : Counter) (x : Chip) (arrivals : Sources) (word : ℕ) → RunsFrom (record c { source = source }) Rests x arrivals word
-rests_on T0 c x arrivals word = search
-rests_on _ c x arrivals word = search
+rests_on : (source : Source) (c : Counter) (x : Chip) (outer : Outer) (word : ℕ) → RunsFrom (record c { source = source }) Rests x outer word
+rests_on T0 c x outer word = search
+rests_on _ c x outer word = search
 
-pub runs : (c : Counter) (place : Place) (x : Chip) (arrivals : Sources) (word : ℕ) → RunsFrom c place x arrivals word
-runs c Rests x arrivals word = rests_on c.source c x arrivals word
-runs c Clears x arrivals word = clears c.source c x arrivals word
-runs c _ x arrivals word = search
+pub runs : (c : Counter) (place : Place) (x : Chip) (outer : Outer) (word : ℕ) → RunsFrom c place x outer word
+runs c Rests x outer word = rests_on c.source c x outer word
+runs c Clears x outer word = clears c.source c x outer word
+runs c _ x outer word = search
+
+-- A step that runs it while a requested interrupt is late, where control rests.
+abbrev DelaysFrom : Counter → Chip → Outer → ℕ → Type 0
+DelaysFrom c x outer word = Runs c Rests true (held c Rests x) (delaying word (instruction_at c Rests) (register_at c Rests) outer (held c Rests x))
+
+delays_on : (source : Source) (c : Counter) (x : Chip) (outer : Outer) (word : ℕ) → DelaysFrom (record c { source = source }) x outer word
+delays_on T0 c x outer word = search
+delays_on _ c x outer word = search
+
+pub delays : (c : Counter) (x : Chip) (outer : Outer) (word : ℕ) → DelaysFrom c x outer word
+delays c x outer word = delays_on c.source c x outer word
 
 -- And a step that takes an interrupt.
 pub record Takes (c : Counter) (x : Chip) (step : Step) : Type 0 where
@@ -133,41 +150,41 @@ pub record Takes (c : Counter) (x : Chip) (step : Step) : Type 0 where
   pub plain : step.after.regs.plain ≡ x.regs.plain
   pub tris : step.after.regs.tris ≡ x.regs.tris
 
-takes_at : (source : Source) (c : Counter) (x : Chip) (arrivals : Sources) → Takes (record c { source = source }) (held (record c { source = source }) Rests x) (taking arrivals (held (record c { source = source }) Rests x))
-takes_at T0 c x arrivals = search
-takes_at _ c x arrivals = search
+takes_at : (source : Source) (c : Counter) (x : Chip) (outer : Outer) → Takes (record c { source = source }) (held (record c { source = source }) Rests x) (taking outer (held (record c { source = source }) Rests x))
+takes_at T0 c x outer = search
+takes_at _ c x outer = search
 
-pub takes : (c : Counter) (x : Chip) (arrivals : Sources) → Takes c (held c Rests x) (taking arrivals (held c Rests x))
-takes c x arrivals = takes_at c.source c x arrivals
+pub takes : (c : Counter) (x : Chip) (outer : Outer) → Takes c (held c Rests x) (taking outer (held c Rests x))
+takes c x outer = takes_at c.source c x outer
 
 -- Where control rests the flag requests, and nothing does in the handler.
-request_of : (source : Source) (c : Counter) (x : Chip) (arrivals : Sources) → requested (arrived arrivals (held (record c { source = source }) Rests x).regs) ≡ flag source (arrived arrivals (held (record c { source = source }) Rests x).regs)
-request_of Ccp2 c x arrivals = refl
-request_of _ c x arrivals = simp or-false
+request_of : (source : Source) (c : Counter) (x : Chip) (outer : Outer) → requested (with_outer outer (held (record c { source = source }) Rests x)).regs ≡ flag source (with_outer outer (held (record c { source = source }) Rests x)).regs
+request_of Ccp2 c x outer = refl
+request_of _ c x outer = simp or-false
 
-pub request : (c : Counter) (x : Chip) (arrivals : Sources) → requested (arrived arrivals (held c Rests x).regs) ≡ flag c.source (arrived arrivals (held c Rests x).regs)
-request c x arrivals = request_of c.source c x arrivals
+pub request : (c : Counter) (x : Chip) (outer : Outer) → requested (with_outer outer (held c Rests x)).regs ≡ flag c.source (with_outer outer (held c Rests x)).regs
+request c x outer = request_of c.source c x outer
 
-pub silent : (c : Counter) (place : Place) (x : Chip) (arrivals : Sources) → rests place ≡ false → requested (arrived arrivals (held c place x).regs) ≡ false
-silent c Rests x arrivals e = absurd cc
-silent c _ x arrivals e = refl
+pub silent : (c : Counter) (place : Place) (x : Chip) (outer : Outer) → rests place ≡ false → requested (with_outer outer (held c place x)).regs ≡ false
+silent c Rests x outer e = absurd cc
+silent c _ x outer e = refl
 
 -- Each reaches its register.
-flag_reached : (source : Source) (c : Counter) (x : Chip) (arrivals : Sources) →
-    operand (field (instruction_at (record c { source = source }) Clears)) (arrived arrivals (held (record c { source = source }) Clears x).regs) ≡ flag_in source
-flag_reached T0 c x arrivals = refl
-flag_reached _ c x arrivals = refl
+flag_reached : (source : Source) (c : Counter) (x : Chip) (outer : Outer) →
+    operand (field (instruction_at (record c { source = source }) Clears)) (with_outer outer (held (record c { source = source }) Clears x)).regs ≡ flag_in source
+flag_reached T0 c x outer = refl
+flag_reached _ c x outer = refl
 
-port_reached : (port : ℕ) (c : Counter) (x : Chip) (arrivals : Sources) → port < 5 →
-    operand (field (instruction_at (record c { port = port }) Commits)) (arrived arrivals (held c Commits x).regs) ≡ Port port
-port_reached zero c x arrivals h = refl
-port_reached (suc zero) c x arrivals h = refl
-port_reached (suc (suc zero)) c x arrivals h = refl
-port_reached (suc (suc (suc zero))) c x arrivals h = refl
-port_reached (suc (suc (suc (suc zero)))) c x arrivals h = refl
-port_reached (suc (suc (suc (suc (suc n))))) c x arrivals h = absurd (omega arith)
+port_reached : (port : ℕ) (c : Counter) (x : Chip) (outer : Outer) → port < 5 →
+    operand (field (instruction_at (record c { port = port }) Commits)) (with_outer outer (held c Commits x)).regs ≡ Port port
+port_reached zero c x outer h = refl
+port_reached (suc zero) c x outer h = refl
+port_reached (suc (suc zero)) c x outer h = refl
+port_reached (suc (suc (suc zero))) c x outer h = refl
+port_reached (suc (suc (suc (suc zero)))) c x outer h = refl
+port_reached (suc (suc (suc (suc (suc n))))) c x outer h = absurd (omega arith)
 
-pub reaches : (c : Counter) (place : Place) (x : Chip) (arrivals : Sources) → c.port < 5 → operand (field (instruction_at c place)) (arrived arrivals (held c place x).regs) ≡ register_at c place
-reaches c Clears x arrivals h = flag_reached c.source c x arrivals
-reaches c Commits x arrivals h = port_reached c.port c x arrivals h
-reaches c _ x arrivals h = refl
+pub reaches : (c : Counter) (place : Place) (x : Chip) (outer : Outer) → c.port < 5 → operand (field (instruction_at c place)) (with_outer outer (held c place x)).regs ≡ register_at c place
+reaches c Clears x outer h = flag_reached c.source c x outer
+reaches c Commits x outer h = port_reached c.port c x outer h
+reaches c _ x outer h = refl

@@ -8,10 +8,10 @@ use Rattle.pic_regs.specs.declared.starts.Start.{Start}
 use Rattle.pic_regs.specs.Bytes.{num, bits}
 use Rattle.pic_regs.specs.Map.{Reg, Port, Tris, Plain, within, existing, reg_at}
 use Rattle.pic_regs.specs.Registers.{Registers, read, byte_at}
-use Rattle.pic_regs.specs.Arrivals.{Sources}
 use Rattle.pic_regs.proofs.SetupRegisterLaws.{Suits}
 use Rattle.pic_machine.specs.Chip.{Chip}
-use Rattle.pic_machine.specs.Run.{Log, program_of, power_on, arrivals_of}
+use Rattle.pic_machine.specs.Boundary.{Outer}
+use Rattle.pic_machine.specs.Run.{Log, program_of, power_on, outer_of}
 use Rattle.pic_machine.specs.Dids.{is_stop}
 use Rattle.counter_code.specs.declared.counters.Counter.{Counter}
 use Rattle.counter_code.specs.declared.counters.SetupAt.{SetupAt}
@@ -65,7 +65,7 @@ at_most_1 : (place : Place) → depth_at place ≤ 1
 at_most_1 Rests = lit≤ tt
 at_most_1 _ = lit≤ tt
 
-module _ (c : Counter) (fine : IsCounter c) (start : Start) (list : List Sources) where
+module _ (c : Counter) (fine : IsCounter c) (start : Start) (list : List Outer) where
   abbrev the_log : Log
   the_log = log_of c start list
 
@@ -79,7 +79,7 @@ module _ (c : Counter) (fine : IsCounter c) (start : Start) (list : List Sources
   way n h = each_step c fine start list target is_aimed n h
 
   same : (n : ℕ) → chip_after the_log n ≡ chip_at c start list n
-  same n = chip_after_is_of_the_run (program_of (image_of c)) (power_on start) (arrivals_of list) n
+  same n = chip_after_is_of_the_run (program_of (image_of c)) (power_on start) (outer_of list) n
 
   pub goes_on : (k : ℕ) → is_stop (the_log k).did ≡ false
   goes_on = each_moment (boot_steps c) (λ n. is_stop (the_log n).did ≡ false) (λ n less. (way n less).step.stop) (λ k. (facts c fine start list k).goes_on)

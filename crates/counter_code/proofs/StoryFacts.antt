@@ -1,5 +1,5 @@
 -- What a log tells of a counter, with nothing of the chip's insides: all that the promises need.
-use Rattle.std.specs.Prelude.{◌≡◌, ℕ, zero, suc, ◌+◌, ◌%◌, ◌<◌, ◌≤◌, Bool, true, false, ◌&&◌, List, [], ◌∷◌, take, if◌then◌else◌}
+use Rattle.std.specs.Prelude.{◌≡◌, ℕ, zero, suc, ◌+◌, ◌%◌, ◌<◌, ◌≤◌, Bool, true, false, List, [], ◌∷◌, take, if◌then◌else◌, ◌⊎◌}
 use Rattle.pic_regs.specs.Bytes.{one_if}
 use Rattle.pic_regs.specs.Registers.{flag, byte_at}
 use Rattle.pic_machine.specs.declared.steps.PortWrite.{PortWrite}
@@ -68,7 +68,7 @@ puts_at c here value = if is_committing here then record { port = c.port; byte =
 
 pub record Story (c : Counter) (log : Log) : Type 0 where
   -- The ready boundary. Before it the program counter isn't at the ready address, GIE is off, nothing is taken, opens or
-  -- commits, and a front of the setup's writes is put; at it, all of these.
+  -- commits, and a prefix of the setup's writes is put; at it, all of these.
   pub ready : ℕ
   pub ready_is_soon : ready ≤ 13
   pub not_there : (k : ℕ) → k < ready → (chip_after log k).pc ≡ ready_address c → ⊥
@@ -85,8 +85,10 @@ pub record Story (c : Counter) (log : Log) : Type 0 where
   pub begins : place 0 ≡ Rests
   pub goes : (k : ℕ) → place (suc k) ≡ next (takes (log (past ready k))) (place k)
   pub pc_is_ready : (k : ℕ) → rests (place k) ≡ true → (chip_after log (past ready k)).pc ≡ ready_address c
-  -- An interrupt is taken where control rests and the event's flag is set after the arrivals, and there alone.
-  pub takes_when : (k : ℕ) → takes (log (past ready k)) ≡ (rests (place k) && flag c.source (log (past ready k)).arrived.regs)
+  -- An interrupt is taken only where control rests and the event's flag is set after the arrivals; and where both hold one is
+  -- taken at this step or the next.
+  pub takes_only : (k : ℕ) → takes (log (past ready k)) ≡ true → (rests (place k) ≡ true) × (flag c.source (log (past ready k)).arrived.regs ≡ true)
+  pub takes_in_time : (k : ℕ) → rests (place k) ≡ true → flag c.source (log (past ready k)).arrived.regs ≡ true → (takes (log (past ready k)) ≡ true) ⊎ (takes (log (past ready (suc k))) ≡ true)
   pub opens_when : (k : ℕ) → ran_at open_address (log (past ready k)) ≡ is_opening (place k)
   pub commits_when : (k : ℕ) → ran_at commit_address (log (past ready k)) ≡ is_committing (place k)
   pub clears_when : (k : ℕ) → clears c.source (log (past ready k)) ≡ is_clearing (place k)

@@ -11,13 +11,14 @@ use Rattle.pic_isa.specs.Names.{port_at}
 use Rattle.pic_regs.specs.Bytes.{Byte, bits, one_if, updated}
 use Rattle.pic_regs.specs.Map.{Reg, Absent, Intcon, Port, Tris, Plain, tris_bits, reg_in, reg_at, over_tris}
 use Rattle.pic_regs.specs.Registers.{Registers}
-use Rattle.pic_regs.specs.Arrivals.{Sources, arrived}
 use Rattle.pic_regs.specs.Start.{ram_place}
 use Rattle.pic_regs.proofs.ByteLaws.{num-bits}
 use Rattle.pic_regs.proofs.SetupRegisterLaws.{Suits, may_set_up}
 use Rattle.pic_machine.specs.Chip.{Chip, through}
 use Rattle.pic_machine.specs.Results.{shown}
+use Rattle.pic_machine.specs.Boundary.{Outer}
 use Rattle.pic_machine.specs.Exec.{field, operand}
+use Rattle.pic_machine.proofs.TurnLaws.{with_outer}
 use Rattle.counter_code.specs.declared.counters.Counter.{Counter}
 use Rattle.counter_code.specs.declared.counters.SetupAt.{SetupAt}
 use Rattle.counter_code.specs.Counters.{IsSetup, setups_of}
@@ -66,24 +67,24 @@ abbrev pub has_setup : Kind → Bool
 has_setup NoSetup = false
 has_setup _ = true
 
-target_of_setup : (setup : Option SetupAt) (c : Counter) (target : Reg) (st : Done) (x : Chip) (arrivals : Sources) → Aimed setup target → has_setup (kind_of setup) ≡ true
-    → operand (field (instruction (record c { setup = setup }) StoresSetup)) (arrived arrivals (before (record c { setup = setup }) StoresSetup st x).regs) ≡ target
-target_of_setup None c target st x arrivals is_aimed there = absurd cc
-target_of_setup (Some s) c target st x arrivals is_aimed there =
-    let regs : Registers = arrived arrivals (before (record c { setup = Some s }) StoresSetup st x).regs in
+target_of_setup : (setup : Option SetupAt) (c : Counter) (target : Reg) (st : Done) (x : Chip) (outer : Outer) → Aimed setup target → has_setup (kind_of setup) ≡ true
+    → operand (field (instruction (record c { setup = setup }) StoresSetup)) (with_outer outer (before (record c { setup = setup }) StoresSetup st x)).regs ≡ target
+target_of_setup None c target st x outer is_aimed there = absurd cc
+target_of_setup (Some s) c target st x outer is_aimed there =
+    let regs : Registers = (with_outer outer (before (record c { setup = Some s }) StoresSetup st x)).regs in
     ap (through regs) (banked s.address (in_bank_1 s.address) refl is_aimed.3 ∙ is_aimed.0) ∙ through_target regs target (suits_target s.register s.address target is_aimed.1)
 
-enable_reached : (source : Source) (c : Counter) (target : Reg) (st : Done) (x : Chip) (arrivals : Sources) → is_peripheral source ≡ true →
-    operand (field (instruction (record c { source = source }) EnablesHigh)) (arrived arrivals (before (record c { source = source }) EnablesHigh st x).regs)
+enable_reached : (source : Source) (c : Counter) (target : Reg) (st : Done) (x : Chip) (outer : Outer) → is_peripheral source ≡ true →
+    operand (field (instruction (record c { source = source }) EnablesHigh)) (with_outer outer (before (record c { source = source }) EnablesHigh st x)).regs
     ≡ register_of (record c { source = source }) target EnablesHigh
-enable_reached T0 c target st x arrivals e = absurd cc
-enable_reached Int c target st x arrivals e = absurd cc
-enable_reached _ c target st x arrivals e = refl
+enable_reached T0 c target st x outer e = absurd cc
+enable_reached Int c target st x outer e = absurd cc
+enable_reached _ c target st x outer e = refl
 
-intcon_reached : (source : Source) (c : Counter) (st : Done) (x : Chip) (arrivals : Sources) →
-    operand (field (instruction (record c { source = source }) Enables)) (arrived arrivals (before (record c { source = source }) Enables st x).regs) ≡ Intcon
-intcon_reached T0 c st x arrivals = refl
-intcon_reached _ c st x arrivals = refl
+intcon_reached : (source : Source) (c : Counter) (st : Done) (x : Chip) (outer : Outer) →
+    operand (field (instruction (record c { source = source }) Enables)) (with_outer outer (before (record c { source = source }) Enables st x)).regs ≡ Intcon
+intcon_reached T0 c st x outer = refl
+intcon_reached _ c st x outer = refl
 
 -- A spot of the kinds that a boot of this shape has.
 abbrev pub belongs : Kind → Bool → Spot → Bool
@@ -97,13 +98,13 @@ belongs kind peripheral _ = true
 abbrev pub is_there : Counter → Spot → Bool
 is_there c s = belongs (kind_of c.setup) (is_peripheral c.source) s
 
-pub reaches : (c : Counter) (target : Reg) (s : Spot) (st : Done) (x : Chip) (arrivals : Sources) → Aimed c.setup target → is_there c s ≡ true
-    → operand (field (instruction c s)) (arrived arrivals (before c s st x).regs) ≡ register_of c target s
-reaches c target StoresSetup st x arrivals is_aimed there = target_of_setup c.setup c target st x arrivals is_aimed there
-reaches c target EnablesHigh st x arrivals is_aimed there = enable_reached c.source c target st x arrivals there
-reaches c target Enables st x arrivals is_aimed there = intcon_reached c.source c st x arrivals
-reaches c target (At place) st x arrivals is_aimed there = absurd cc
-reaches c target _ st x arrivals is_aimed there = refl
+pub reaches : (c : Counter) (target : Reg) (s : Spot) (st : Done) (x : Chip) (outer : Outer) → Aimed c.setup target → is_there c s ≡ true
+    → operand (field (instruction c s)) (with_outer outer (before c s st x)).regs ≡ register_of c target s
+reaches c target StoresSetup st x outer is_aimed there = target_of_setup c.setup c target st x outer is_aimed there
+reaches c target EnablesHigh st x outer is_aimed there = enable_reached c.source c target st x outer there
+reaches c target Enables st x outer is_aimed there = intcon_reached c.source c st x outer
+reaches c target (At place) st x outer is_aimed there = absurd cc
+reaches c target _ st x outer is_aimed there = refl
 
 target_fits : (setup : Option SetupAt) (target : Reg) → Aimed setup target → has_setup (kind_of setup) ≡ true → is_target target ≡ true
 target_fits None target is_aimed there = absurd cc

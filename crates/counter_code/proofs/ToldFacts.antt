@@ -9,12 +9,12 @@ use Rattle.pic_regs.specs.declared.starts.Start.{Start}
 use Rattle.pic_regs.specs.Bytes.{num, one_if}
 use Rattle.pic_regs.specs.Map.{Reg}
 use Rattle.pic_regs.specs.Registers.{Registers, flag, byte_at}
-use Rattle.pic_regs.specs.Arrivals.{Sources}
 use Rattle.pic_regs.specs.Start.{registers_on}
 use Rattle.pic_regs.proofs.ByteLaws.{num-bits}
 use Rattle.pic_machine.specs.declared.steps.PortWrite.{PortWrite}
 use Rattle.pic_machine.specs.Chip.{Chip}
-use Rattle.pic_machine.specs.Run.{Log, program_of, power_on, arrivals_of}
+use Rattle.pic_machine.specs.Boundary.{Outer}
+use Rattle.pic_machine.specs.Run.{Log, program_of, power_on, outer_of}
 use Rattle.pic_machine.proofs.TurnLaws.{flag-latched}
 use Rattle.counter_code.specs.declared.counters.Counter.{Counter}
 use Rattle.counter_code.specs.declared.counters.SetupAt.{SetupAt}
@@ -23,12 +23,13 @@ use Rattle.counter_code.specs.Counters.{IsCounter, setups_of}
 use Rattle.counter_code.specs.Layout.{state_byte, in_bank_1, is_peripheral, image_of, ready_address, open_address, commit_address}
 use Rattle.firmware_promises.specs.Counts.{chip_after, takes, latches, clears, port_writes}
 use Rattle.firmware_promises.specs.Follows.{setup_puts}
-use Rattle.firmware_promises.proofs.HeardLaws.{chip_after_is_of_the_run}
+use Rattle.firmware_promises.proofs.HeardLaws.{heard_is_taken, chip_after_is_of_the_run}
 use Rattle.counter_code.proofs.PastFacts.{each_moment}
-use Rattle.counter_code.proofs.StoryFacts.{Place, Rests, next, past, rests, value_after, puts_at, Story}
+use Rattle.counter_code.proofs.StoryFacts.{Place, Rests, next, past, event_in_map, rests, value_after, puts_at, Story}
 use Rattle.counter_code.proofs.SpotFacts.{Kind, NoSetup, LowSetup, HighSetup, running_order, kind_of, byte_of, ready_at, ready_is}
 use Rattle.counter_code.proofs.TargetFacts.{Aimed, aimed, has_setup, Stands}
 use Rattle.counter_code.proofs.BootRunFacts.{chip_at, log_of, at_last, boot_steps, BootAt, Along, each_step, at_ready}
+use Rattle.counter_code.proofs.PlaceStepFacts.{held}
 use Rattle.counter_code.proofs.PlaceRunFacts.{Stays, all_done}
 use Rattle.counter_code.proofs.PlaceFacts.{Facts, led, ledger_of, not_cleared}
 
@@ -70,7 +71,7 @@ flag_first : (source : Source) (start : Start) → flag source (registers_on sta
 flag_first T0 start = refl
 flag_first _ start = refl
 
-module _ (c : Counter) (fine : IsCounter c) (start : Start) (list : List Sources) where
+module _ (c : Counter) (fine : IsCounter c) (start : Start) (list : List Outer) where
   abbrev x : ℕ → Chip
   x n = chip_at c start list n
 
@@ -91,7 +92,7 @@ module _ (c : Counter) (fine : IsCounter c) (start : Start) (list : List Sources
 
   -- The chip after n steps of the log is that of the run.
   same : (n : ℕ) → chip_after the_log n ≡ x n
-  same n = chip_after_is_of_the_run (program_of (image_of c)) (power_on start) (arrivals_of list) n
+  same n = chip_after_is_of_the_run (program_of (image_of c)) (power_on start) (outer_of list) n
 
   way : (n : ℕ) → n < ready → Along c fine start list target is_aimed n
   way n h = each_step c fine start list target is_aimed n h
@@ -102,17 +103,17 @@ module _ (c : Counter) (fine : IsCounter c) (start : Start) (list : List Sources
   -- What holds from the ready boundary on.
   pub stays : (k : ℕ) → Stays c target (place k) (x (past ready k))
   stays zero = record {
-    held = sym (all_done c.source c (kind_of c.setup) (x ready)) ∙ end.known;
+    held = subst (λ y. held c Rests y ≡ y) end.known (all_done c.source c (kind_of c.setup) (x ready));
     pc = end.pc ∙ sym (ready_is c);
     stack = λ e. absurd cc;
-    flagged = λ e. absurd cc;
+    flagged = λ e. absurd (let no : ◌≡◌ {A = Bool} false true = ap (λ (y : Chip). y.due) end.known ∙ e in cc);
     w = tt;
     stands = there_is_a_setup c.setup target (x ready).regs is_aimed end.stands;
   }
-  stays (suc k) = (led c fine target is_aimed (place k) (x (past ready k)) (arrivals_of list (past ready k)) (stays k)).1
+  stays (suc k) = (led c fine target is_aimed (place k) (x (past ready k)) (outer_of list (past ready k)) (stays k)).1
 
   pub facts : (k : ℕ) → Facts c (place k) (x (past ready k)) (the_log (past ready k))
-  facts k = (led c fine target is_aimed (place k) (x (past ready k)) (arrivals_of list (past ready k)) (stays k)).0
+  facts k = (led c fine target is_aimed (place k) (x (past ready k)) (outer_of list (past ready k)) (stays k)).0
 
   -- In the boot.
   plain : (n : ℕ) (h : n < ready) → (((way n h).address == ready_at (kind_of c.setup) (is_peripheral c.source)) ≡ false) × (((way n h).address == 7) ≡ false) × (((way n h).address == 8) ≡ false)
@@ -149,7 +150,7 @@ module _ (c : Counter) (fine : IsCounter c) (start : Start) (list : List Sources
 
   ledger : (n : ℕ) → Ledger n
   ledger = each_moment ready Ledger
-      (λ n less. ledger_of_run n (ledger_of (program_of (image_of c)) (arrivals_of list n) (x n) c.source ((way n less).step.unchanged c.source)))
+      (λ n less. ledger_of_run n (ledger_of (program_of (image_of c)) (outer_of list n) (x n) c.source ((way n less).step.unchanged c.source)))
       (λ k. ledger_of_run (past ready k) (facts k).ledger)
 
   pc_is : (place : Place) (y : Chip) → Stays c target place y → rests place ≡ true → y.pc ≡ ready_address c
@@ -173,7 +174,8 @@ module _ (c : Counter) (fine : IsCounter c) (start : Start) (list : List Sources
     begins = refl;
     goes = λ k. refl;
     pc_is_ready = λ k e. ap (λ (y : Chip). y.pc) (same (past ready k)) ∙ pc_is (place k) (x (past ready k)) (stays k) e;
-    takes_when = λ k. (facts k).takes_when;
+    takes_only = λ k. (facts k).takes_only;
+    takes_in_time = λ k is_resting. heard_is_taken (program_of (image_of c)) (power_on start) (outer_of list) (event_in_map c) (past ready k) ((facts k).hears_when ∙ is_resting);
     opens_when = λ k. (facts k).opens_when;
     commits_when = λ k. (facts k).commits_when;
     clears_when = λ k. (facts k).clears_when;
@@ -181,7 +183,7 @@ module _ (c : Counter) (fine : IsCounter c) (start : Start) (list : List Sources
     hears_when = λ k. (facts k).hears_when;
     values = λ k. (facts k).values ∙ ap (λ y. value_after c (place k) (byte_at y.regs state_byte)) (sym (same (past ready k)));
     puts = λ k. (facts k).puts ∙ ap (λ y. puts_at c (place k) (byte_at y.regs state_byte)) (sym (same (past ready k)));
-    arrival = λ n. ap (λ (y : Chip). one_if (flag c.source y.regs) + one_if (latches c.source (the_log n))) (same n) ∙ flag-latched c.source (arrivals_of list n) (x n);
+    arrival = λ n. ap (λ (y : Chip). one_if (flag c.source y.regs) + one_if (latches c.source (the_log n))) (same n) ∙ flag-latched c.source (outer_of list n) (x n);
     flag_at_first = flag_first c.source start;
     ledger = ledger;
   }

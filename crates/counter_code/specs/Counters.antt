@@ -1,5 +1,6 @@
+-- Programs of the first form: the tree and the tokens that a `Counter` stands for.
 use Rattle.std.specs.Prelude.{◌≡◌, ◌≢◌, ℕ, ◌<◌, false, List, [], ◌∷◌, ◌++◌, Option, Some, None, IfSome, IsTrue, codes}
-use Rattle.efrp_meaning.specs.Causal.{IsPriority}
+use Rattle.frp_tree.specs.Priorities.{IsPriority}
 use Rattle.frp_tree.specs.Names.{is_name, is_keyword}
 use Rattle.frp_tree.specs.declared.syntax.Ty.TheVariants.{U8}
 use Rattle.frp_tree.specs.declared.syntax.Lit.TheVariants as lit

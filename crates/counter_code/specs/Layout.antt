@@ -1,3 +1,4 @@
+-- The code of a counter, instruction by instruction, and its image.
 use Rattle.std.specs.Prelude.{ℕ, ◌+◌, ◌-◌, Bool, nat_le, List, [], ◌∷◌, ◌++◌, length, take, drop, Option, Some, None, if◌then◌else◌}
 use Rattle.pic_isa.specs.declared.instructions.Dest.TheVariants.{W}
 use Rattle.pic_isa.specs.declared.instructions.Instr.{Instr}

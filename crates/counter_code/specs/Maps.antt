@@ -1,3 +1,4 @@
+-- The map of a counter's image.
 use Rattle.std.specs.Prelude.{ℕ, ◌+◌, Bool, ◌||◌, ◌&&◌, ◌==◌, zero, suc, List, [], ◌∷◌, length, Option, Some, None, false, if◌then◌else◌}
 use Rattle.pic_isa.specs.Sources.{flag_of, enable_of}
 use Rattle.map_file.specs.declared.maps.Range.{Range}
@@ -45,6 +46,7 @@ map_of c = record {
   events = record { name = c.event; source = c.source; priority = c.priority; «open» = open_address; commit = commit_address } ∷ [];
   states = record { name = c.name; ty = U8; low = state_byte; high = state_byte } ∷ [];
   outputs = c.port ∷ [];
+  samples = [];
   ready = ready_address c;
   regs = ranges_below 512 (is_written c);
   depth = 1;

@@ -1,3 +1,5 @@
+// The type of programs of the first form.
+
 use frp_tree::Text;
 use pic_isa::Source;
 

@@ -1,3 +1,5 @@
+// The theorems about counters: one program a text, and firmware that keeps what it promises.
+
 ghost use Rattle.std.specs.Prelude.{◌≡◌, ℕ, List};
 ghost use Rattle.firmware_promises.specs.Firmware.{AlwaysKeeps, AlwaysSettles};
 ghost use Rattle.counter_code.specs.declared.counters.Counter.{Counter as Counters};
@@ -10,7 +12,7 @@ pub fn one_program()
     ensures { (text : List ℕ) (c d : Counters) → Spells text c → Spells text d → c ≡ d }
 {}
 
-/// From every start, under every list of arrivals and at every moment, the run of a counter's image keeps what the
+/// From every start, whatever comes from outside and at every moment, the run of a counter's image keeps what the
 /// program and the map promise.
 pub fn keeps_promises()
     ensures { (c : Counters) → IsCounter c → AlwaysKeeps (program_of c) (image_of c) (map_of c) }

@@ -1,3 +1,5 @@
+// The bounds of a program of the first form, in numbers.
+
 ghost use Rattle.std.specs.Prelude.{◌≡◌};
 ghost use Rattle.efrp_meaning.specs.Bounds.{ram_bound, settle_bound, words_bound};
 ghost use Rattle.counter_code.specs.Counters.{IsCounter, program_of};

@@ -1,3 +1,5 @@
+// The compiler: the image and the map of a counter.
+
 ghost use Rattle.std.specs.Prelude.{◌≡◌, IfOk, length};
 ghost use Rattle.hex_file.specs.Written.{IsWritable, written};
 ghost use Rattle.map_file.specs.MapRules.{IsMap};
@@ -61,6 +63,7 @@ fn map(alloc: Global, counter: &Counter, words: u16) -> Result<Map, AllocError>
         events: events(alloc, counter)?,
         states: states(alloc, counter)?,
         outputs,
+        samples: List::new(alloc),
         ready: words - 1,
         regs: written_ranges(alloc, counter)?,
         depth: 1,
@@ -70,7 +73,7 @@ fn map(alloc: Global, counter: &Counter, words: u16) -> Result<Map, AllocError>
     })
 }
 
-/// The image and the map of a program of the first form. An `Err` is want of memory.
+/// The image and the map of a program of the first form. An `Err` is out of memory.
 pub fn compile(alloc: Global, counter: &Counter) -> Result<Built, AllocError>
     requires { IsCounter counter.now }
     ensures image { IfOk result (λ built. built.image ≡ image_of counter.now) }

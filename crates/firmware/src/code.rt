@@ -1,3 +1,5 @@
+// The code of a counter, instruction by instruction.
+
 ghost use Rattle.std.specs.Prelude.{◌≡◌, ◌+◌, [], ◌∷◌, ◌++◌, ◌<◌, ◌≤◌, IfOk, IfSome, OnOk, length, map, IsTrue, ◌↔◌, if◌then◌else◌};
 ghost use Rattle.std.specs.List.{AllByRecursion};
 ghost use Rattle.pic_isa.specs.Instructions.{FieldsFit};
@@ -250,7 +252,7 @@ fn words(alloc: Global, code: &[Instr]) -> Result<List<Word>, AllocError>
     Ok(words)
 }
 
-/// The image of a program of the first form. An `Err` is want of memory.
+/// The image of a program of the first form. An `Err` is out of memory.
 pub fn image(alloc: Global, counter: &Counter) -> Result<Image, AllocError>
     requires { IsCounter counter.now }
     ensures image { IfOk result (λ image. image ≡ image_of counter.now) }

@@ -1,3 +1,5 @@
+// The registers that a counter's code writes, as ranges for the map.
+
 ghost use Rattle.std.specs.Prelude.{◌≡◌, [], ◌∷◌, ◌++◌, ◌<◌, IfOk, OnOk};
 ghost use Rattle.counter_code.specs.Maps.{is_set_up, is_written, ranges_below, sets_up_bank_1, with_address};
 
@@ -64,7 +66,7 @@ fn add_address(ranges: &mut Vec<Range>, address: u16) -> Result<(), AllocError>
     push_range(ranges, address, address)
 }
 
-/// The registers that the firmware writes, as ranges that rise and don't touch. An `Err` is want of memory.
+/// The registers that the firmware writes, as ranges that rise and don't touch. An `Err` is out of memory.
 pub fn written_ranges(alloc: Global, counter: &Counter) -> Result<List<Range>, AllocError>
     requires { counter.now.port < 5 }
     ensures { IfOk result (λ ranges. ranges ≡ ranges_below 512 (is_written counter.now)) }

@@ -13,6 +13,8 @@ pub mod FlagsSides
 pub mod GoodFollows
 pub mod GoodLog
 pub mod GoodOnce
+pub mod HeardSides
+pub mod InTimeSides
 pub mod KeepsSides
 pub mod ListsSides
 pub mod NamesSides
@@ -20,6 +22,7 @@ pub mod NeverCommits
 pub mod NeverReady
 pub mod QuietSides
 pub mod ReportsSides
+pub mod SampleSides
 pub mod SetupsSides
 pub mod Stories
 pub mod TwoEvents

@@ -1,5 +1,6 @@
 -- The code of counters, run on the defined chip and counted as the promises count.
 pub mod Counting
+pub mod Late
 pub mod Merged
 pub mod Moments
 pub mod Promises

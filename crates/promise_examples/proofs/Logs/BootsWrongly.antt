@@ -5,7 +5,8 @@ use Rattle.std.proofs.Common.{◌≡◌, refl, ap, inl, inr, arith}
 use Rattle.pic_machine.specs.declared.steps.PortWrite.{PortWrite}
 use Rattle.pic_machine.specs.Run.{Log}
 use Rattle.firmware_promises.specs.Ready.{ShowsReady}
-use Rattle.firmware_promises.specs.Follows.{ReadyInTime, BootIsQuiet, Alternates, NoTakingInside, ClosesInTime, StatesAreSerial, PutsAreSerial, BootPutsSetups}
+use Rattle.firmware_promises.specs.Follows.{ReadyInTime, BootIsQuiet, Alternates, NoTakingInside, ClosesInTime, StatesAreSerial, PutsAreSerial, BootPutsSetups, WindowsAreSampled}
+use Rattle.firmware_promises.proofs.SampleLaws.{windows_are_sampled}
 use Rattle.promise_examples.proofs.Logs.Stories.{chip, ran, put, told, counting, counting_map}
 use Rattle.promise_examples.proofs.Logs.GoodLog.{starts, write_of}
 
@@ -61,3 +62,6 @@ states r k is_it from to none = absurd (not_ready r is_it.shown)
 
 puts : PutsAreSerial counting counting_map boots_wrongly 1
 puts r k is_it from to = absurd (not_ready r is_it.shown)
+
+samples : WindowsAreSampled counting counting_map boots_wrongly 1
+samples = windows_are_sampled counting counting_map boots_wrongly refl 1

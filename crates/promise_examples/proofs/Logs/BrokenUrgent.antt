@@ -4,7 +4,7 @@ use Rattle.std.proofs.Common.{◌≡◌, refl, arith, add-zero, append-nil}
 use Rattle.pic_machine.specs.Boundary.{Step}
 use Rattle.pic_machine.specs.Run.{Log}
 use Rattle.firmware_promises.specs.Counts.{commits, cleared_count, is_under_way, interrupts_on}
-use Rattle.firmware_promises.specs.Urgent.{NoOvertaking, InterruptsComeOn, Listens, WorkIsOpen, is_heard, is_paid}
+use Rattle.firmware_promises.specs.Urgent.{NoOvertaking, InterruptsComeOn, Listens, WorkIsOpen, is_heard, gives_opening}
 use Rattle.promise_examples.proofs.Logs.Stories.{chip, chip_of, intcon_of, ran, met, told, counting, counting_map, two_events, tick_event}
 use Rattle.promise_examples.proofs.Logs.GoodLog.{is_taken, clears_flag}
 use Rattle.promise_examples.proofs.Logs.Booted.{booted, ready_at}
@@ -87,7 +87,7 @@ turns_off = booted (ran (chip 8 true false 0) (chip 25 false false 0) ∷ []) bu
 pub work_must_open : WorkIsOpen counting_map turns_off 19 → ⊥
 work_must_open it = let one = it 2 (omega arith) refl in at one.0 one.1 one.3
   where
-    at : (j : ℕ) → 2 < j → is_paid counting_map (turns_off j) ≡ true → ⊥
+    at : (j : ℕ) → 2 < j → gives_opening counting_map (turns_off j) ≡ true → ⊥
     at zero h e = omega arith
     at (suc zero) h e = omega arith
     at (suc (suc zero)) h e = omega arith
@@ -99,7 +99,7 @@ takes_long = booted (is_taken ∷ clears_flag ∷ []) busy
 pub work_must_open_after_a_clearing : WorkIsOpen counting_map takes_long 20 → ⊥
 work_must_open_after_a_clearing it = let one = it 3 (omega arith) refl in at one.0 one.1 one.3
   where
-    at : (j : ℕ) → 3 < j → is_paid counting_map (takes_long j) ≡ true → ⊥
+    at : (j : ℕ) → 3 < j → gives_opening counting_map (takes_long j) ≡ true → ⊥
     at zero h e = omega arith
     at (suc zero) h e = omega arith
     at (suc (suc zero)) h e = omega arith

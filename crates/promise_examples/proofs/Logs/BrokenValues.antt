@@ -100,7 +100,7 @@ write_must_come_once it =
     let puts = (it 2 8 (ready_at (with_commit commits_tick) puts_again 8 (omega arith)) (omega arith) (omega arith)).0 refl in
     two_writes (one_commit (write_of 1 7 ∷ write_of 1 1 ∷ write_of 1 1 ∷ []) puts.0 puts.1 puts.2)
 
--- In a window: the open itself puts 9, and what was put after 5 steps is no front of 7 and 1.
+-- In a window: the open itself puts 9, and what was put after 5 steps is no prefix of 7 and 1.
 abbrev puts_inside : List Step
 puts_inside = is_taken ∷ clears_flag ∷ put 9 (chip 20 false false 0) (chip 21 false false 1) ∷ commits_tick ∷ returns ∷ []
 
@@ -113,24 +113,24 @@ nothing_then e = cc
 one_then : (more : List ℕ) → Apart (1 ∷ 7 ∷ 1 ∷ 9 ∷ []) (1 ∷ 7 ∷ 1 ∷ 1 ∷ more)
 one_then more e = cc
 
-front : (i : ℕ) → with_nine ≡ write_of 1 7 ∷ take i (write_of 1 1 ∷ []) → ⊥
-front zero e = nothing_then (ap numbers e)
-front (suc i) e = one_then (numbers (take i [])) (ap numbers e)
+prefix : (i : ℕ) → with_nine ≡ write_of 1 7 ∷ take i (write_of 1 1 ∷ []) → ⊥
+prefix zero e = nothing_then (ap numbers e)
+prefix (suc i) e = one_then (numbers (take i [])) (ap numbers e)
 
 in_window : (state : List ℕ) (reaction : Reaction) (i : ℕ) (values : List (List ℕ)) → Some (0 ∷ []) ≡ Some state
-    → react counting state tick ≡ Some reaction → Some [] ≡ Some values
+    → react counting state [] tick ≡ Some reaction → Some [] ≡ Some values
     → with_nine ≡ setup_puts counting ++ (flat_map (reaction_puts counting) values ++ take i (reaction_puts counting reaction.ports)) → ⊥
 in_window state reaction i values e f g it =
     let none : values ≡ [] = cc in
     let old : state ≡ 0 ∷ [] = cc in
-    let react_is : Some (record { state = 1 ∷ []; ports = 1 ∷ [] }) ≡ Some reaction = subst (λ (s : List ℕ). react counting s tick ≡ Some reaction) old f in
+    let react_is : Some (record { state = 1 ∷ []; ports = 1 ∷ [] }) ≡ Some reaction = subst (λ (s : List ℕ). react counting s [] tick ≡ Some reaction) old f in
     let the_reaction : reaction ≡ record { state = 1 ∷ []; ports = 1 ∷ [] } = cc in
-    front i (
+    prefix i (
     subst (λ (r : Reaction). with_nine ≡ setup_puts counting ++ ([] ++ take i (reaction_puts counting r.ports))) the_reaction (
     subst (λ (v : List (List ℕ)). with_nine ≡ setup_puts counting ++ (flat_map (reaction_puts counting) v ++ take i (reaction_puts counting reaction.ports))) none it))
 
-pub writes_in_a_window_must_be_a_front : PutsAreSerial counting counting_map (booted puts_inside rests) 5 → ⊥
-writes_in_a_window_must_be_a_front it =
+pub writes_in_a_window_must_be_a_prefix : PutsAreSerial counting counting_map (booted puts_inside rests) 5 → ⊥
+writes_in_a_window_must_be_a_prefix it =
     let puts = (it 2 5 (ready_at puts_inside rests 5 (omega arith)) (omega arith) (omega arith)).1 tick refl in
     in_window puts.0 puts.1 puts.2 puts.5.0 puts.3 puts.4 puts.5.1 puts.5.2
 

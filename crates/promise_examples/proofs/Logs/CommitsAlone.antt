@@ -6,7 +6,8 @@ use Rattle.pic_machine.specs.Boundary.{Step}
 use Rattle.pic_machine.specs.Run.{Log}
 use Rattle.firmware_promises.specs.Counts.{opens, commits, port_writes}
 use Rattle.firmware_promises.specs.Ready.{ReadyAt, BeforeReady}
-use Rattle.firmware_promises.specs.Follows.{ReadyInTime, BootIsQuiet, Alternates, NoTakingInside, ClosesInTime, StatesAreSerial, PutsAreSerial, BootPutsSetups, NoWindow, Window}
+use Rattle.firmware_promises.specs.Follows.{ReadyInTime, BootIsQuiet, Alternates, NoTakingInside, ClosesInTime, StatesAreSerial, PutsAreSerial, BootPutsSetups, WindowsAreSampled, NoWindow, Window}
+use Rattle.firmware_promises.proofs.SampleLaws.{windows_are_sampled}
 use Rattle.promise_examples.proofs.Logs.Stories.{chip, ran, put, counting, counting_map}
 use Rattle.promise_examples.proofs.Logs.GoodLog.{is_taken, clears_flag, opens_tick, commits_tick, returns, rests, write_of}
 use Rattle.promise_examples.proofs.Logs.Booted.{booted, ready_at, ready_from}
@@ -95,6 +96,9 @@ setups : (n : ℕ) → BootPutsSetups counting counting_map commits_alone n
 setups n zero h before = (0, refl)
 setups n (suc zero) h before = (1, refl)
 setups n (suc (suc k)) h before = absurd (before_ready n (suc (suc k)) (omega arith) (omega arith) before)
+
+samples : (n : ℕ) → WindowsAreSampled counting counting_map commits_alone n
+samples n = windows_are_sampled counting counting_map commits_alone refl n
 
 -- Two opens with no commit between break it too.
 abbrev opens_again : Log

@@ -1,12 +1,13 @@
 -- An interrupt is taken between the open and the commit. The log breaks the clause `undisturbed` of `Follows` alone.
-use Rattle.std.specs.Prelude.{ℕ, zero, suc, ◌≤◌, true, false, List, [], ◌∷◌, ◌++◌}
-use Rattle.std.proofs.Common.{◌≡◌, refl, sym, ◌∙◌, inl, inr, arith, append-nil}
+use Rattle.std.specs.Prelude.{ℕ, zero, suc, ◌≤◌, true, false, List, [], ◌∷◌, ◌++◌, map}
+use Rattle.std.proofs.Common.{◌≡◌, refl, sym, ◌∙◌, ap, inl, inr, arith, append-nil}
 use Rattle.efrp_meaning.proofs.Examples.Programs.{tick}
 use Rattle.pic_machine.specs.Boundary.{Step}
 use Rattle.pic_machine.specs.Run.{Log}
-use Rattle.firmware_promises.specs.Counts.{opens, commits, port_writes}
+use Rattle.firmware_promises.specs.Counts.{opens, commits, port_writes, reactions}
 use Rattle.firmware_promises.specs.Ready.{ReadyAt, BeforeReady}
-use Rattle.firmware_promises.specs.Follows.{ReadyInTime, BootIsQuiet, Alternates, NoTakingInside, ClosesInTime, StatesAreSerial, PutsAreSerial, BootPutsSetups, Window}
+use Rattle.firmware_promises.specs.Follows.{ReadyInTime, BootIsQuiet, Alternates, NoTakingInside, ClosesInTime, StatesAreSerial, PutsAreSerial, BootPutsSetups, WindowsAreSampled, Window}
+use Rattle.firmware_promises.proofs.SampleLaws.{unsampled, reactions_are_commits, windows_are_sampled}
 use Rattle.promise_examples.proofs.Logs.Stories.{chip, ran, put, took, counting, counting_map}
 use Rattle.promise_examples.proofs.Logs.GoodLog.{is_taken, clears_flag, write_of}
 use Rattle.promise_examples.proofs.Logs.Booted.{booted, ready_at, ready_from}
@@ -41,6 +42,9 @@ opens_past (suc k) = rw append-nil (opens_past k)
 commits_past : (k : ℕ) → commits counting_map disturbed (past k) ≡ tick ∷ []
 commits_past zero = refl
 commits_past (suc k) = rw append-nil (commits_past k)
+
+reactions_past : (k : ℕ) → reactions counting counting_map disturbed (past k) ≡ unsampled tick ∷ []
+reactions_past k = reactions_are_commits counting counting_map disturbed refl (past k) ∙ ap (map unsampled) (commits_past k)
 
 writes_past : (k : ℕ) → port_writes disturbed (past k) ≡ write_of 1 7 ∷ write_of 1 1 ∷ []
 writes_past zero = refl
@@ -89,7 +93,7 @@ states n r (suc (suc (suc (suc (suc zero))))) is_it from to none = absurd (let e
 states n r (suc (suc (suc (suc (suc (suc zero)))))) is_it from to none = absurd (let e : tick ∷ [] ≡ [] = none in cc)
 states n r (suc (suc (suc (suc (suc (suc (suc zero))))))) is_it from to none = absurd (let e : tick ∷ [] ≡ [] = none in cc)
 states n r (suc (suc (suc (suc (suc (suc (suc (suc zero)))))))) is_it from to none = refl
-states n r (suc (suc (suc (suc (suc (suc (suc (suc (suc k))))))))) is_it from to none = rw (commits_past (suc k)) refl
+states n r (suc (suc (suc (suc (suc (suc (suc (suc (suc k))))))))) is_it from to none = rw (reactions_past (suc k)) refl
 
 not_open_past : (k : ℕ) (e : List ℕ) → Window counting_map disturbed (past k) e → ⊥
 not_open_past k e is_open = let one : tick ∷ [] ≡ (tick ∷ []) ++ e ∷ [] = sym (opens_past k) ∙ is_open ∙ rw (commits_past k) refl in cc
@@ -106,9 +110,12 @@ puts n r (suc (suc (suc (suc zero)))) is_it from to = ((λ none. ([], refl, refl
 puts n r (suc (suc (suc (suc (suc zero))))) is_it from to = ((λ none. absurd (let e : tick ∷ [] ≡ [] = none in cc)), λ e is_open. (0 ∷ [], record { state = 1 ∷ []; ports = 1 ∷ [] }, 0, refl, rw (is_tick e is_open) refl, ([], refl, refl)))
 puts n r (suc (suc (suc (suc (suc (suc zero)))))) is_it from to = ((λ none. absurd (let e : tick ∷ [] ≡ [] = none in cc)), λ e is_open. (0 ∷ [], record { state = 1 ∷ []; ports = 1 ∷ [] }, 0, refl, rw (is_tick e is_open) refl, ([], refl, refl)))
 puts n r (suc (suc (suc (suc (suc (suc (suc zero))))))) is_it from to = ((λ none. absurd (let e : tick ∷ [] ≡ [] = none in cc)), λ e is_open. (0 ∷ [], record { state = 1 ∷ []; ports = 1 ∷ [] }, 0, refl, rw (is_tick e is_open) refl, ([], refl, refl)))
-puts n r (suc (suc (suc (suc (suc (suc (suc (suc k)))))))) is_it from to = ((λ none. ((1 ∷ []) ∷ [], rw (commits_past k) refl, writes_past k)), λ e is_open. absurd (not_open_past k e is_open))
+puts n r (suc (suc (suc (suc (suc (suc (suc (suc k)))))))) is_it from to = ((λ none. ((1 ∷ []) ∷ [], rw (reactions_past k) refl, writes_past k)), λ e is_open. absurd (not_open_past k e is_open))
 
 setups : (n : ℕ) → BootPutsSetups counting counting_map disturbed n
 setups n zero h before = (0, refl)
 setups n (suc zero) h before = (1, refl)
 setups n (suc (suc k)) h before = absurd (before_ready n (suc (suc k)) (omega arith) (omega arith) before)
+
+samples : (n : ℕ) → WindowsAreSampled counting counting_map disturbed n
+samples n = windows_are_sampled counting counting_map disturbed refl n

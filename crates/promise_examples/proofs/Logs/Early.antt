@@ -1,12 +1,13 @@
 -- A Tick that comes during the boot is cleared, opened and committed before the ready boundary, which is 4. The log breaks the
 -- clause `quiet` of `Follows` alone.
-use Rattle.std.specs.Prelude.{ℕ, zero, suc, ◌<◌, ◌≤◌, true, false, List, [], ◌∷◌, ◌++◌}
-use Rattle.std.proofs.Common.{◌≡◌, refl, sym, ◌∙◌, inl, inr, arith, append-nil}
+use Rattle.std.specs.Prelude.{ℕ, zero, suc, ◌<◌, ◌≤◌, true, false, List, [], ◌∷◌, ◌++◌, map}
+use Rattle.std.proofs.Common.{◌≡◌, refl, sym, ◌∙◌, inl, inr, arith, append-nil, ap}
 use Rattle.efrp_meaning.proofs.Examples.Programs.{tick}
 use Rattle.pic_machine.specs.Run.{Log}
-use Rattle.firmware_promises.specs.Counts.{opens, commits, port_writes}
+use Rattle.firmware_promises.specs.Counts.{opens, commits, port_writes, reactions}
 use Rattle.firmware_promises.specs.Ready.{ShowsReady, ReadyAt}
-use Rattle.firmware_promises.specs.Follows.{ReadyInTime, BootIsQuiet, Alternates, NoTakingInside, ClosesInTime, StatesAreSerial, PutsAreSerial, BootPutsSetups, Window}
+use Rattle.firmware_promises.specs.Follows.{ReadyInTime, BootIsQuiet, Alternates, NoTakingInside, ClosesInTime, StatesAreSerial, PutsAreSerial, BootPutsSetups, WindowsAreSampled, Window}
+use Rattle.firmware_promises.proofs.SampleLaws.{unsampled, reactions_are_commits, windows_are_sampled}
 use Rattle.promise_examples.proofs.Logs.Stories.{chip, put, met, told, counting, counting_map}
 use Rattle.promise_examples.proofs.Logs.GoodLog.{opens_tick, rests, write_of}
 
@@ -52,6 +53,9 @@ commits_past : (k : ℕ) → commits counting_map early (past k) ≡ tick ∷ []
 commits_past zero = refl
 commits_past (suc k) = rw append-nil (commits_past k)
 
+reactions_past : (k : ℕ) → reactions counting counting_map early (past k) ≡ unsampled tick ∷ []
+reactions_past k = reactions_are_commits counting counting_map early refl (past k) ∙ ap (map unsampled) (commits_past k)
+
 writes_past : (k : ℕ) → port_writes early (past k) ≡ write_of 1 7 ∷ write_of 1 1 ∷ []
 writes_past zero = refl
 writes_past (suc k) = rw append-nil (writes_past k)
@@ -86,7 +90,7 @@ states n r (suc zero) is_it from to none = absurd (let at_least = ready_from n r
 states n r (suc (suc zero)) is_it from to none = absurd (let at_least = ready_from n r is_it in omega arith)
 states n r (suc (suc (suc zero))) is_it from to none = absurd (let at_least = ready_from n r is_it in omega arith)
 states n r (suc (suc (suc (suc zero)))) is_it from to none = refl
-states n r (suc (suc (suc (suc (suc k))))) is_it from to none = rw (commits_past (suc k)) refl
+states n r (suc (suc (suc (suc (suc k))))) is_it from to none = rw (reactions_past (suc k)) refl
 
 not_open_past : (k : ℕ) (e : List ℕ) → Window counting_map early (past k) e → ⊥
 not_open_past k e is_open =
@@ -98,7 +102,7 @@ puts n r (suc zero) is_it from to = absurd (let at_least = ready_from n r is_it 
 puts n r (suc (suc zero)) is_it from to = absurd (let at_least = ready_from n r is_it in omega arith)
 puts n r (suc (suc (suc zero))) is_it from to = absurd (let at_least = ready_from n r is_it in omega arith)
 puts n r (suc (suc (suc (suc k)))) is_it from to =
-    ((λ none. ((1 ∷ []) ∷ [], rw (commits_past k) refl, writes_past k)), λ e is_open. absurd (not_open_past k e is_open))
+    ((λ none. ((1 ∷ []) ∷ [], rw (reactions_past k) refl, writes_past k)), λ e is_open. absurd (not_open_past k e is_open))
 
 setups : (n : ℕ) → BootPutsSetups counting counting_map early n
 setups n zero h before = (0, refl)
@@ -106,3 +110,6 @@ setups n (suc zero) h before = (0, refl)
 setups n (suc (suc zero)) h before = (1, refl)
 setups n (suc (suc (suc zero))) h before = (1, refl)
 setups n (suc (suc (suc (suc k)))) h before = absurd (before 4 (omega arith) (inl (omega arith, refl)))
+
+samples : (n : ℕ) → WindowsAreSampled counting counting_map early n
+samples n = windows_are_sampled counting counting_map early refl n

@@ -5,9 +5,10 @@ use Rattle.std.proofs.Common.{◌≡◌, refl, sym, ◌∙◌, inl, inr, arith}
 use Rattle.efrp_meaning.proofs.Examples.Programs.{tick}
 use Rattle.firmware_promises.specs.Ready.{ReadyAt, BeforeReady}
 use Rattle.firmware_promises.specs.Follows.{Follows, ReadyInTime, BootIsQuiet, Alternates, NoTakingInside, ClosesInTime, StatesAreSerial, PutsAreSerial, PutsAre, BootPutsSetups, Window}
+use Rattle.firmware_promises.proofs.SampleLaws.{windows_are_sampled}
 use Rattle.promise_examples.proofs.Logs.Stories.{counting, counting_map}
 use Rattle.promise_examples.proofs.Logs.Booted.{ready_at, ready_from}
-use Rattle.promise_examples.proofs.Logs.GoodLog.{reaction, reacting, rests_with, good, past, opens_past, commits_past, writes_past}
+use Rattle.promise_examples.proofs.Logs.GoodLog.{reaction, reacting, rests_with, good, past, opens_past, commits_past, reactions_past, writes_past}
 
 -- The ready boundary is 2.
 from_two : (v b n r : ℕ) → ReadyAt counting_map (reacting v b) n r → 2 ≤ r
@@ -66,11 +67,11 @@ states b n r (suc (suc (suc (suc zero)))) is_it from to none = refl
 states b n r (suc (suc (suc (suc (suc zero))))) is_it from to none = absurd (let e : tick ∷ [] ≡ [] = none in cc)
 states b n r (suc (suc (suc (suc (suc (suc zero)))))) is_it from to none = refl
 states b n r (suc (suc (suc (suc (suc (suc (suc zero))))))) is_it from to none = refl
-states b n r (suc (suc (suc (suc (suc (suc (suc (suc k)))))))) is_it from to none = rw (commits_past 1 b (suc k)) refl
+states b n r (suc (suc (suc (suc (suc (suc (suc (suc k)))))))) is_it from to none = rw (reactions_past 1 b (suc k)) refl
 
 -- After k steps the writes are those of the setups, and those of the reactions.
 past_puts : (v k : ℕ) → PutsAre counting counting_map (reacting v 1) (past k) []
-past_puts v k = ((1 ∷ []) ∷ [], rw (commits_past v 1 k) refl, writes_past v 1 k)
+past_puts v k = ((1 ∷ []) ∷ [], rw (reactions_past v 1 k) refl, writes_past v 1 k)
 
 not_open_past : (v b k : ℕ) (e : List ℕ) → Window counting_map (reacting v b) (past k) e → ⊥
 not_open_past v b k e is_open =
@@ -103,4 +104,5 @@ good_follows n = record {
   states = states 1 n;
   puts = puts 1 n;
   setups = setups 1 1 n;
+  samples = windows_are_sampled counting counting_map good refl n;
 }

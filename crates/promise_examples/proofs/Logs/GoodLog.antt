@@ -1,13 +1,14 @@
 -- A log that keeps each promise: the chip boots and comes to its ready boundary after two steps, one Tick is latched and taken
 -- there, its flag is cleared, it opens, it commits, and the chip is ready again for good.
-use Rattle.std.specs.Prelude.{ℕ, zero, suc, Bool, true, false, List, [], ◌∷◌}
-use Rattle.std.proofs.Common.{◌≡◌, refl, add-zero, append-nil}
+use Rattle.std.specs.Prelude.{ℕ, zero, suc, Bool, true, false, List, [], ◌∷◌, map}
+use Rattle.std.proofs.Common.{◌≡◌, refl, ◌∙◌, ap, add-zero, append-nil}
 use Rattle.efrp_meaning.proofs.Examples.Programs.{tick}
 use Rattle.pic_machine.specs.declared.steps.PortWrite.{PortWrite}
 use Rattle.pic_machine.specs.Boundary.{Step}
 use Rattle.pic_machine.specs.Run.{Log}
-use Rattle.firmware_promises.specs.Counts.{count, opens, commits, port_writes}
-use Rattle.promise_examples.proofs.Logs.Stories.{chip, ran, put, took, told, counting_map}
+use Rattle.firmware_promises.specs.Counts.{count, opens, commits, port_writes, reactions}
+use Rattle.firmware_promises.proofs.SampleLaws.{unsampled, reactions_are_commits}
+use Rattle.promise_examples.proofs.Logs.Stories.{chip, ran, put, took, told, counting, counting_map}
 
 -- The setups' write, the end of the boot, the taking, and the clearing of the flag.
 abbrev pub boots : Step
@@ -73,6 +74,9 @@ opens_past v b (suc k) = rw append-nil (opens_past v b k)
 pub commits_past : (v b k : ℕ) → commits counting_map (reacting v b) (past k) ≡ tick ∷ []
 commits_past v b zero = refl
 commits_past v b (suc k) = rw append-nil (commits_past v b k)
+
+pub reactions_past : (v b k : ℕ) → reactions counting counting_map (reacting v b) (past k) ≡ unsampled tick ∷ []
+reactions_past v b k = reactions_are_commits counting counting_map (reacting v b) refl (past k) ∙ ap (map unsampled) (commits_past v b k)
 
 abbrev pub write_of : ℕ → ℕ → PortWrite
 write_of its_port its_byte = record { port = its_port; byte = its_byte }

@@ -7,7 +7,7 @@ use Rattle.pic_machine.specs.Boundary.{Step}
 use Rattle.firmware_promises.specs.Counts.{latches, clears, latched_count, cleared_count, commit_count, flag_after, interrupts_on, chip_after}
 use Rattle.firmware_promises.specs.Once.{Once, Waits}
 use Rattle.firmware_promises.specs.Settled.{Settled}
-use Rattle.firmware_promises.specs.Urgent.{Urgent, NoOvertaking, InterruptsComeOn, Listens, WorkIsOpen, AtOne, is_heard}
+use Rattle.firmware_promises.specs.Urgent.{Urgent, NoOvertaking, InterruptsComeOn, Listens, WorkIsOpen, TakesInTime, AtOne, is_heard}
 use Rattle.promise_examples.proofs.Logs.Stories.{counting, counting_map, tick_event}
 use Rattle.promise_examples.proofs.Logs.GoodLog.{reacting, past, count_past, commits_past}
 
@@ -62,17 +62,34 @@ listening : (v b n : ℕ) → Listens counting counting_map (reacting v b) n
 listening v b n s stretch = ((λ none. comes_on v b (is_heard tick_event) (λ k. refl) s), tt)
 
 open_work : (v b n : ℕ) → WorkIsOpen counting_map (reacting v b) n
-open_work v b n zero h due = (7, omega arith, omega arith, refl)
-open_work v b n (suc zero) h due = (7, omega arith, omega arith, refl)
-open_work v b n (suc (suc zero)) h due = (7, omega arith, omega arith, refl)
-open_work v b n (suc (suc (suc zero))) h due = (7, omega arith, omega arith, refl)
-open_work v b n (suc (suc (suc (suc zero)))) h due = (7, omega arith, omega arith, refl)
-open_work v b n (suc (suc (suc (suc (suc zero))))) h due = (7, omega arith, omega arith, refl)
-open_work v b n (suc (suc (suc (suc (suc (suc zero)))))) h due = (7, omega arith, omega arith, refl)
-open_work v b n (suc (suc (suc (suc (suc (suc (suc k))))))) h due = (past (suc k), omega arith, omega arith, refl)
+open_work v b n zero h asked = (7, omega arith, omega arith, refl)
+open_work v b n (suc zero) h asked = (7, omega arith, omega arith, refl)
+open_work v b n (suc (suc zero)) h asked = (7, omega arith, omega arith, refl)
+open_work v b n (suc (suc (suc zero))) h asked = (7, omega arith, omega arith, refl)
+open_work v b n (suc (suc (suc (suc zero)))) h asked = (7, omega arith, omega arith, refl)
+open_work v b n (suc (suc (suc (suc (suc zero))))) h asked = (7, omega arith, omega arith, refl)
+open_work v b n (suc (suc (suc (suc (suc (suc zero)))))) h asked = (7, omega arith, omega arith, refl)
+open_work v b n (suc (suc (suc (suc (suc (suc (suc k))))))) h asked = (past (suc k), omega arith, omega arith, refl)
+
+-- Tick is heard with its flag set at boundary 2 alone, where it is taken.
+in_time : (v b n : ℕ) → TakesInTime counting_map (reacting v b) n
+in_time v b n zero h = ((λ heard is_set. absurd cc), tt)
+in_time v b n (suc zero) h = ((λ heard is_set. absurd cc), tt)
+in_time v b n (suc (suc zero)) h = ((λ heard is_set. inl refl), tt)
+in_time v b n (suc (suc (suc zero))) h = ((λ heard is_set. absurd cc), tt)
+in_time v b n (suc (suc (suc (suc zero)))) h = ((λ heard is_set. absurd cc), tt)
+in_time v b n (suc (suc (suc (suc (suc zero))))) h = ((λ heard is_set. absurd cc), tt)
+in_time v b n (suc (suc (suc (suc (suc (suc zero)))))) h = ((λ heard is_set. absurd cc), tt)
+in_time v b n (suc (suc (suc (suc (suc (suc (suc k))))))) h = ((λ heard is_set. absurd cc), tt)
 
 pub urgent : (v b n : ℕ) → Urgent counting counting_map (reacting v b) n
-urgent v b n = record { no_overtaking = no_overtaking v b n; interrupts_off = interrupts_off v b n; listening = listening v b n; open_work = open_work v b n }
+urgent v b n = record {
+  no_overtaking = no_overtaking v b n;
+  interrupts_off = interrupts_off v b n;
+  listening = listening v b n;
+  open_work = open_work v b n;
+  in_time = in_time v b n;
+}
 
 -- It has settled at its ready boundary too, where nothing was latched.
 pub settled_at_first : (v b : ℕ) → Settled counting_map (reacting v b) 2

@@ -6,18 +6,21 @@ use Rattle.frp_tree.specs.declared.syntax.Ty.{Ty}
 use Rattle.frp_tree.specs.declared.syntax.Ty.TheVariants.{Bool, U8, U16}
 use Rattle.efrp_meaning.proofs.Examples.Programs.{tick}
 use Rattle.pic_isa.specs.declared.sources.Source.TheVariants.{T0}
+use Rattle.hex_file.specs.declared.images.Image.{Image}
 use Rattle.map_file.specs.declared.maps.MapEvent.{MapEvent}
 use Rattle.map_file.specs.declared.maps.MapState.{MapState}
 use Rattle.map_file.specs.declared.maps.Map.{Map}
 use Rattle.firmware_promises.specs.Firmware.{Names}
 use Rattle.promise_examples.proofs.Logs.Stories.{counting, counting_map, tick_event}
 use Rattle.promise_examples.proofs.Logs.ReportsSides.{three_words}
+use Rattle.promise_examples.proofs.Logs.SampleSides.{sampling, sampling_map}
 
 pub names : Names counting three_words counting_map
 names = record {
   events = refl;
   states = refl;
   outputs = refl;
+  samples = refl;
   code_differs = ((λ e. cc, (λ e. cc, tt)), ((λ e. cc, tt), (tt, tt)));
   code_is_there = (refl, (refl, (refl, tt)));
   states_differ = (tt, tt);
@@ -112,3 +115,35 @@ bytes_must_differ it = it.states_differ.0.0 refl
 
 pub high_must_be_listed : Names counting three_words (of_state (wide_at 0x020 0x021)) → ⊥
 high_must_be_listed it = let e = it.states_are_listed.1.0 in cc
+
+-- Samples: each event has one for each input that it needs, at an address of its own that has a word; and there is no other.
+abbrev four_words : Image
+four_words = record three_words { words = record { address = 8; word = 0 } ∷ record { address = 18; word = 0 } ∷ record { address = 20; word = 0 } ∷ record { address = 21; word = 0 } ∷ [] }
+
+pub names_with_a_sample : Names sampling four_words sampling_map
+names_with_a_sample = record {
+  events = refl;
+  states = refl;
+  outputs = refl;
+  samples = refl;
+  code_differs = ((λ e. cc, (λ e. cc, (λ e. cc, tt))), ((λ e. cc, (λ e. cc, tt)), ((λ e. cc, tt), (tt, tt))));
+  code_is_there = (refl, (refl, (refl, (refl, tt))));
+  states_differ = (tt, tt);
+  states_are_general = (refl, tt);
+  states_are_listed = (refl, tt);
+}
+
+pub sample_must_be_there : Names sampling four_words (record sampling_map { samples = [] }) → ⊥
+sample_must_be_there it = let e = it.samples in cc
+
+pub no_other_sample : Names counting three_words (record counting_map { samples = sampling_map.samples }) → ⊥
+no_other_sample it = let e = it.samples in cc
+
+abbrev sample_at : ℕ → Map
+sample_at address = record sampling_map { samples = record { event = tick; input = codes "level"; at = address } ∷ [] }
+
+pub sample_and_open_must_differ : Names sampling four_words (sample_at 20) → ⊥
+sample_and_open_must_differ it = it.code_differs.1.0.1.0 refl
+
+pub sample_must_have_a_word : Names sampling four_words (sample_at 19) → ⊥
+sample_must_have_a_word it = let e = it.code_is_there.1.1.1.0 in cc

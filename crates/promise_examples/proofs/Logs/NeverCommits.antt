@@ -1,12 +1,13 @@
 -- What opened never commits: step 4 opens, and Off is 108. The log breaks the clause `closes` of `Follows` alone.
-use Rattle.std.specs.Prelude.{ℕ, zero, suc, ◌<◌, ◌≤◌, false, List, [], ◌∷◌, ◌++◌}
-use Rattle.std.proofs.Common.{◌≡◌, refl, sym, ◌∙◌, inl, inr, arith, append-nil}
+use Rattle.std.specs.Prelude.{ℕ, zero, suc, ◌<◌, ◌≤◌, false, List, [], ◌∷◌, ◌++◌, map}
+use Rattle.std.proofs.Common.{◌≡◌, refl, sym, ◌∙◌, inl, inr, arith, append-nil, ap}
 use Rattle.efrp_meaning.proofs.Examples.Programs.{tick}
 use Rattle.pic_machine.specs.Boundary.{Step}
 use Rattle.pic_machine.specs.Run.{Log}
-use Rattle.firmware_promises.specs.Counts.{opens, commits, port_writes, committed_by}
+use Rattle.firmware_promises.specs.Counts.{opens, commits, port_writes, committed_by, reactions}
 use Rattle.firmware_promises.specs.Ready.{ReadyAt, BeforeReady}
-use Rattle.firmware_promises.specs.Follows.{ReadyInTime, BootIsQuiet, Alternates, NoTakingInside, ClosesInTime, StatesAreSerial, PutsAreSerial, BootPutsSetups, NoWindow, Window}
+use Rattle.firmware_promises.specs.Follows.{ReadyInTime, BootIsQuiet, Alternates, NoTakingInside, ClosesInTime, StatesAreSerial, PutsAreSerial, BootPutsSetups, WindowsAreSampled, NoWindow, Window}
+use Rattle.firmware_promises.proofs.SampleLaws.{unsampled, no_samples, reactions_are_commits, windows_are_sampled}
 use Rattle.promise_examples.proofs.Logs.Stories.{chip, ran, counting, counting_map}
 use Rattle.promise_examples.proofs.Logs.GoodLog.{is_taken, clears_flag, write_of}
 use Rattle.promise_examples.proofs.Logs.Booted.{booted, ready_at, ready_from}
@@ -36,6 +37,9 @@ opens_past (suc k) = rw append-nil (opens_past k)
 commits_past : (k : ℕ) → commits counting_map never_commits (past k) ≡ []
 commits_past zero = refl
 commits_past (suc k) = rw append-nil (commits_past k)
+
+reactions_past : (k : ℕ) → reactions counting counting_map never_commits (past k) ≡ []
+reactions_past k = reactions_are_commits counting counting_map never_commits refl (past k) ∙ ap (map unsampled) (commits_past k)
 
 writes_past : (k : ℕ) → port_writes never_commits (past k) ≡ write_of 1 7 ∷ []
 writes_past zero = refl
@@ -98,10 +102,13 @@ puts n r (suc (suc (suc zero))) is_it from to = ((λ none. ([], refl, refl)), λ
 puts n r (suc (suc (suc (suc zero)))) is_it from to = ((λ none. ([], refl, refl)), λ e is_open. absurd (let e : [] ≡ e ∷ [] = is_open in cc))
 puts n r (suc (suc (suc (suc (suc k))))) is_it from to = (
   (λ none. absurd (some_window k none)),
-  λ e is_open. (0 ∷ [], record { state = 1 ∷ []; ports = 1 ∷ [] }, 0, rw (commits_past k) refl, rw (window_of k e is_open) refl, ([], rw (commits_past k) refl, writes_past k)),
+  λ e is_open. (0 ∷ [], record { state = 1 ∷ []; ports = 1 ∷ [] }, 0, rw (reactions_past k) refl, rw (no_samples counting counting_map never_commits refl e (past k), window_of k e is_open) refl, ([], rw (reactions_past k) refl, writes_past k)),
 )
 
 setups : (n : ℕ) → BootPutsSetups counting counting_map never_commits n
 setups n zero h before = (0, refl)
 setups n (suc zero) h before = (1, refl)
 setups n (suc (suc k)) h before = absurd (before_ready n (suc (suc k)) (omega arith) (omega arith) before)
+
+samples : (n : ℕ) → WindowsAreSampled counting counting_map never_commits n
+samples n = windows_are_sampled counting counting_map never_commits refl n

@@ -4,7 +4,8 @@ use Rattle.std.proofs.Common.{◌≡◌, refl, sym, ◌∙◌, inl, inr, arith, 
 use Rattle.pic_machine.specs.Run.{Log}
 use Rattle.firmware_promises.specs.Counts.{opens, commits, port_writes}
 use Rattle.firmware_promises.specs.Ready.{ShowsReady}
-use Rattle.firmware_promises.specs.Follows.{ReadyInTime, BootIsQuiet, Alternates, NoTakingInside, ClosesInTime, StatesAreSerial, PutsAreSerial, BootPutsSetups}
+use Rattle.firmware_promises.specs.Follows.{ReadyInTime, BootIsQuiet, Alternates, NoTakingInside, ClosesInTime, StatesAreSerial, PutsAreSerial, BootPutsSetups, WindowsAreSampled}
+use Rattle.firmware_promises.proofs.SampleLaws.{windows_are_sampled}
 use Rattle.promise_examples.proofs.Logs.Stories.{chip, ran, told, counting, counting_map}
 
 abbrev never_ready : Log
@@ -50,3 +51,6 @@ puts n r k is_it from to = absurd (never_shows n r is_it.shown)
 
 setups : (n : ℕ) → BootPutsSetups counting counting_map never_ready n
 setups n k h before = (0, puts_nothing k)
+
+samples : (n : ℕ) → WindowsAreSampled counting counting_map never_ready n
+samples n = windows_are_sampled counting counting_map never_ready refl n

@@ -3,8 +3,8 @@ use Rattle.std.specs.Prelude.{ℕ, zero, suc, ◌+◌, ◌<◌, ◌≤◌, true,
 use Rattle.std.proofs.Common.{◌≡◌, refl, arith}
 use Rattle.pic_isa.specs.declared.sources.Source.{Source}
 use Rattle.pic_isa.specs.declared.sources.Source.TheVariants.{Int}
-use Rattle.pic_regs.specs.Arrivals.{Sources, no_source}
-use Rattle.pic_machine.specs.Run.{arrivals_of}
+use Rattle.pic_machine.specs.Boundary.{Outer, no_outer}
+use Rattle.pic_machine.specs.Run.{outer_of}
 use Rattle.firmware_promises.specs.Firmware.{IsQuietLongEnough}
 use Rattle.promise_examples.proofs.Logs.Stories.{int_alone, counting_map}
 
@@ -16,13 +16,13 @@ pub not_quiet_before : IsQuietLongEnough counting_map [] 99 → ⊥
 not_quiet_before it = let e : 100 ≤ 99 = it.0 in omega arith
 
 -- With an arrival at boundary 3 it is so from 103 steps on, and not after 102.
-abbrev at_three : List Sources
-at_three = no_source ∷ no_source ∷ no_source ∷ int_alone ∷ []
+abbrev at_three : List Outer
+at_three = no_outer ∷ no_outer ∷ no_outer ∷ record no_outer { arrivals = int_alone } ∷ []
 
 pub quiet_from_arrival : IsQuietLongEnough counting_map at_three 103
 quiet_from_arrival = (omega arith, at)
   where
-    at : (k : ℕ) (source : Source) → k < 103 → arrivals_of at_three k source ≡ true → k + 100 ≤ 103
+    at : (k : ℕ) (source : Source) → k < 103 → (outer_of at_three k).arrivals source ≡ true → k + 100 ≤ 103
     at zero source h e = omega arith
     at (suc zero) source h e = omega arith
     at (suc (suc zero)) source h e = omega arith

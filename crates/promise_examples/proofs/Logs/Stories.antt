@@ -1,5 +1,5 @@
 -- Logs told step by step, for the examples: chips and steps by the few parts of which the promises speak, a program and its map.
-use Rattle.std.specs.Prelude.{ℕ, zero, suc, Bool, true, List, [], ◌∷◌, codes, Option, Some, None, if◌then◌else◌, ◌==◌}
+use Rattle.std.specs.Prelude.{ℕ, zero, suc, Bool, true, false, List, [], ◌∷◌, codes, Option, Some, None, if◌then◌else◌, ◌==◌}
 use Rattle.frp_tree.specs.declared.syntax.Ty.TheVariants.{U8}
 use Rattle.frp_tree.specs.declared.syntax.Lit.TheVariants as lit
 use Rattle.frp_tree.specs.Tree.{ProgramTree, Name}
@@ -38,7 +38,7 @@ registers_of its_intcon value = record {
 }
 
 abbrev pub chip_of : ℕ → Byte → ℕ → Chip
-chip_of address its_intcon value = record { w = zeros; pc = address; regs = registers_of its_intcon value; stack = λ place. 0; top = 0; depth = 0 }
+chip_of address its_intcon value = record { w = zeros; pc = address; regs = registers_of its_intcon value; stack = λ place. 0; top = 0; depth = 0; due = false }
 
 -- A chip by its program counter, GIE, the flag of INT and the byte at 020h. The enable of INT is on, and all else is 0.
 abbrev pub chip : ℕ → Bool → Bool → ℕ → Chip
@@ -94,6 +94,7 @@ counting_map = record {
   events = tick_event ∷ [];
   states = record { name = codes "n"; ty = U8; low = 0x020; high = 0x020 } ∷ [];
   outputs = 1 ∷ [];
+  samples = [];
   ready = 8;
   regs = record { from = 0x020; to = 0x020 } ∷ [];
   depth = 1;

@@ -5,7 +5,7 @@ use Rattle.std.proofs.Common.{◌≡◌, refl, ap, ◌∙◌, sym, arith}
 use Rattle.pic_machine.specs.Boundary.{Step}
 use Rattle.pic_machine.specs.Run.{Log}
 use Rattle.firmware_promises.specs.Counts.{interrupts_on}
-use Rattle.firmware_promises.specs.Urgent.{InterruptsComeOn, Listens, NoneUrgentUnderWay, WorkIsOpen, AtOne, is_due, is_paid}
+use Rattle.firmware_promises.specs.Urgent.{InterruptsComeOn, Listens, NoneUrgentUnderWay, WorkIsOpen, AtOne, asks_for_opening, gives_opening}
 use Rattle.promise_examples.proofs.Logs.Stories.{chip, ran, told, counting, counting_map}
 use Rattle.promise_examples.proofs.Logs.GoodLog.{is_taken, clears_flag, rests}
 use Rattle.promise_examples.proofs.Logs.Booted.{booted, ready_at, ready_from}
@@ -52,26 +52,26 @@ opens_at_last = ran (chip 20 false false 0) (chip 25 false false 0)
 abbrev stays_busy : ℕ → Log
 stays_busy n = booted (ran (chip 8 true false 0) (chip 25 false false 0) ∷ replicate n busy ++ opens_at_last ∷ []) busy
 
-due_no_more : (n k : ℕ) → is_due counting_map (told (replicate n busy ++ opens_at_last ∷ []) busy k) ≡ false
-due_no_more zero zero = refl
-due_no_more zero (suc k) = refl
-due_no_more (suc n) zero = refl
-due_no_more (suc n) (suc k) = due_no_more n k
+asks_no_more : (n k : ℕ) → asks_for_opening counting_map (told (replicate n busy ++ opens_at_last ∷ []) busy k) ≡ false
+asks_no_more zero zero = refl
+asks_no_more zero (suc k) = refl
+asks_no_more (suc n) zero = refl
+asks_no_more (suc n) (suc k) = asks_no_more n k
 
 pub open_after_16_steps_is_in_time : (m : ℕ) → WorkIsOpen counting_map (stays_busy 15) m
-open_after_16_steps_is_in_time m zero h due = absurd cc
-open_after_16_steps_is_in_time m (suc zero) h due = absurd cc
-open_after_16_steps_is_in_time m (suc (suc zero)) h due = (18, omega arith, omega arith, refl)
-open_after_16_steps_is_in_time m (suc (suc (suc k))) h due = absurd (let no : ◌≡◌ {A = Bool} false true = sym (due_no_more 15 k) ∙ due in cc)
+open_after_16_steps_is_in_time m zero h asked = absurd cc
+open_after_16_steps_is_in_time m (suc zero) h asked = absurd cc
+open_after_16_steps_is_in_time m (suc (suc zero)) h asked = (18, omega arith, omega arith, refl)
+open_after_16_steps_is_in_time m (suc (suc (suc k))) h asked = absurd (let no : ◌≡◌ {A = Bool} false true = sym (asks_no_more 15 k) ∙ asked in cc)
 
 pub open_after_17_steps_is_late : WorkIsOpen counting_map (stays_busy 16) 20 → ⊥
 open_after_17_steps_is_late it = let one = it 2 (omega arith) refl in at one.0 one.1 one.2 one.3
   where
-    at : (j : ℕ) → 2 < j → j ≤ 18 → is_paid counting_map (stays_busy 16 j) ≡ true → ⊥
+    at : (j : ℕ) → 2 < j → j ≤ 18 → gives_opening counting_map (stays_busy 16 j) ≡ true → ⊥
     at zero h to e = omega arith
     at (suc zero) h to e = omega arith
     at (suc (suc zero)) h to e = omega arith
-    at (suc (suc (suc k))) h to e = let no : ◌≡◌ {A = Bool} false true = sym (ap (is_paid counting_map) (told_first busy busy (opens_at_last ∷ []) 16 k (omega arith))) ∙ e in cc
+    at (suc (suc (suc k))) h to e = let no : ◌≡◌ {A = Bool} false true = sym (ap (gives_opening counting_map) (told_first busy busy (opens_at_last ∷ []) 16 k (omega arith))) ∙ e in cc
 
 -- A long window: GIE is off at the boundaries 4 to 112, while Tick is under way. `interrupts_off` is broken, and `listening` is
 -- not. Where a long stretch with GIE off has no event under way, `listening` falls with `interrupts_off`.

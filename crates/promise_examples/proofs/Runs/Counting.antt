@@ -6,9 +6,9 @@ use Rattle.pic_isa.specs.declared.sources.Source.{Source}
 use Rattle.pic_isa.specs.declared.sources.Source.TheVariants.{T0}
 use Rattle.pic_isa.specs.Sources.{source_number}
 use Rattle.pic_regs.specs.declared.starts.Start.{Start}
-use Rattle.pic_regs.specs.Arrivals.{Sources, no_source, set_of}
+use Rattle.pic_regs.specs.Arrivals.{set_of}
 use Rattle.pic_machine.specs.declared.steps.PortWrite.{PortWrite}
-use Rattle.pic_machine.specs.Boundary.{Step}
+use Rattle.pic_machine.specs.Boundary.{Outer, Step, no_outer}
 use Rattle.pic_machine.specs.Run.{Log, run}
 use Rattle.hex_file.specs.declared.images.Image.{Image}
 use Rattle.map_file.specs.declared.maps.MapEvent.{MapEvent}
@@ -51,13 +51,13 @@ tick_event = record { name = tick; source = T0; priority = 1; «open» = 7; comm
 abbrev pub start : Start
 start = record { ram = replicate 368 0xFF; w = 0xFF; flags = 0x07 }
 
--- No arrival at this many boundaries.
-abbrev pub quiet : ℕ → List Sources
-quiet n = replicate n no_source
+-- Nothing comes at this many boundaries.
+abbrev pub quiet : ℕ → List Outer
+quiet n = replicate n no_outer
 
 -- A source alone.
-abbrev pub alone : Source → Sources
-alone source = set_of (2 ^ source_number source)
+abbrev pub alone : Source → Outer
+alone source = record no_outer { arrivals = set_of (2 ^ source_number source) }
 
 -- T0 arrives at one boundary, or at one and again when this many have passed between.
 abbrev pub once_at : ℕ → Log

@@ -3,8 +3,9 @@ use Rattle.std.specs.Prelude.{ℕ, List, [], ◌∷◌, ◌++◌, take, Some}
 use Rattle.std.proofs.Common.{◌≡◌, refl, sym, ◌∙◌, ap, arith}
 use Rattle.efrp_meaning.specs.Meaning.{Reaction, react, state_after}
 use Rattle.efrp_meaning.proofs.Examples.Programs.{tick}
-use Rattle.firmware_promises.specs.Counts.{opens, commits}
+use Rattle.firmware_promises.specs.Counts.{opens, commits, window_samples, reactions}
 use Rattle.firmware_promises.specs.Follows.{PutsAreSerial, PutsAre, NoWindow, Window, reaction_puts}
+use Rattle.firmware_promises.proofs.SampleLaws.{no_samples}
 use Rattle.promise_examples.proofs.Runs.Moments.{AllFrom, each}
 use Rattle.promise_examples.proofs.Runs.Counting.{program, counter_map, two_ticks}
 use Rattle.promise_examples.proofs.Runs.Serial.{open_after_16, open_after_24, ready_from, from_ready}
@@ -47,16 +48,16 @@ to_1 = record { state = 1 ∷ []; ports = 1 ∷ [] }
 abbrev to_2 : Reaction
 to_2 = record { state = 2 ∷ []; ports = 2 ∷ [] }
 
-first_reaction : (e : List ℕ) → e ≡ tick → react program (0 ∷ []) e ≡ Some to_1
-first_reaction e it = ap (λ name. react program (0 ∷ []) name) it
+first_reaction : (samples e : List ℕ) → samples ≡ [] → e ≡ tick → react program (0 ∷ []) samples e ≡ Some to_1
+first_reaction samples e none it = λ i. react program (0 ∷ []) (none i) (it i)
 
-second_reaction : (e : List ℕ) → e ≡ tick → react program (1 ∷ []) e ≡ Some to_2
-second_reaction e it = ap (λ name. react program (1 ∷ []) name) it
+second_reaction : (samples e : List ℕ) → samples ≡ [] → e ≡ tick → react program (1 ∷ []) samples e ≡ Some to_2
+second_reaction samples e none it = λ i. react program (1 ∷ []) (none i) (it i)
 
 abbrev InWindow : ℕ → List ℕ → Type 0
 InWindow k e =
     (state : List ℕ) × (reaction : Reaction) × (i : ℕ)
-    × (state_after program (commits counter_map two_ticks k) ≡ Some state) × (react program state e ≡ Some reaction)
+    × (state_after program (reactions program counter_map two_ticks k) ≡ Some state) × (react program state (window_samples program counter_map two_ticks e k) e ≡ Some reaction)
     × PutsAre program counter_map two_ticks k (take i (reaction_puts program reaction.ports))
 
 abbrev WindowAt : ℕ → Type 0
@@ -67,11 +68,11 @@ no_window k xs o c e it = absurd (closed xs (opens counter_map two_ticks k) (com
 
 first_window : WindowAt 16
 first_window e it =
-    (0 ∷ [], to_1, 0, refl, first_reaction e (is_tick e (last_is_tick [] (opens counter_map two_ticks 16) (commits counter_map two_ticks 16) e refl refl it)), ([], refl, refl))
+    (0 ∷ [], to_1, 0, refl, first_reaction (window_samples program counter_map two_ticks e 16) e (no_samples program counter_map two_ticks refl e 16) (is_tick e (last_is_tick [] (opens counter_map two_ticks 16) (commits counter_map two_ticks 16) e refl refl it)), ([], refl, refl))
 
 second_window : WindowAt 24
 second_window e it =
-    (1 ∷ [], to_2, 0, refl, second_reaction e (second_is_tick e (last_is_tick (tick ∷ []) (opens counter_map two_ticks 24) (commits counter_map two_ticks 24) e refl refl it)), (one_value, refl, refl))
+    (1 ∷ [], to_2, 0, refl, second_reaction (window_samples program counter_map two_ticks e 24) e (no_samples program counter_map two_ticks refl e 24) (second_is_tick e (last_is_tick (tick ∷ []) (opens counter_map two_ticks 24) (commits counter_map two_ticks 24) e refl refl it)), (one_value, refl, refl))
 
 windows_at : AllFrom 9 18 WindowAt
 windows_at = (no_window 9 [] refl refl, (no_window 10 [] refl refl, (no_window 11 [] refl refl, (no_window 12 [] refl refl, (no_window 13 [] refl refl, (no_window 14 [] refl refl, (no_window 15 [] refl refl, (first_window, (no_window 17 (tick ∷ []) refl refl, (no_window 18 (tick ∷ []) refl refl, (no_window 19 (tick ∷ []) refl refl, (no_window 20 (tick ∷ []) refl refl, (no_window 21 (tick ∷ []) refl refl, (no_window 22 (tick ∷ []) refl refl, (no_window 23 (tick ∷ []) refl refl, (second_window, (no_window 25 (tick ∷ tick ∷ []) refl refl, (no_window 26 (tick ∷ tick ∷ []) refl refl, tt))))))))))))))))))

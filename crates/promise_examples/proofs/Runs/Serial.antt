@@ -3,7 +3,7 @@ use Rattle.std.specs.Prelude.{ℕ, ◌<◌, ◌≤◌, Bool, true, false, List, 
 use Rattle.std.proofs.Common.{◌≡◌, refl, sym, ◌∙◌, inl, inr, arith}
 use Rattle.efrp_meaning.specs.Meaning.{state_after}
 use Rattle.efrp_meaning.proofs.Examples.Programs.{tick}
-use Rattle.firmware_promises.specs.Counts.{chip_after, takes, opens, commits}
+use Rattle.firmware_promises.specs.Counts.{chip_after, takes, opens, commits, reactions}
 use Rattle.firmware_promises.specs.Ready.{ShowsReady, ReadyAt}
 use Rattle.firmware_promises.specs.Follows.{StatesAreSerial, NoWindow}
 use Rattle.firmware_promises.specs.MapNames.{states_in}
@@ -50,9 +50,9 @@ open_after_16 = one_more_opened (opens counter_map two_ticks 16) (commits counte
 pub open_after_24 : NoWindow counter_map two_ticks 24 → ⊥
 open_after_24 = second_opened (opens counter_map two_ticks 24) (commits counter_map two_ticks 24) refl refl
 
--- From the ready boundary on, where no window stands open, the state is that of the serial run of the commits.
+-- From the ready boundary on, where no window stands open, the state is that of the serial run of the reactions.
 abbrev StateAt : ℕ → Type 0
-StateAt k = NoWindow counter_map two_ticks k → state_after program (commits counter_map two_ticks k) ≡ Some (states_in counter_map (chip_after two_ticks k))
+StateAt k = NoWindow counter_map two_ticks k → state_after program (reactions program counter_map two_ticks k) ≡ Some (states_in counter_map (chip_after two_ticks k))
 
 states_at : AllFrom 9 18 StateAt
 states_at = (λ none. refl, (λ none. refl, (λ none. refl, (λ none. refl, (λ none. refl, (λ none. refl, (λ none. refl, (λ none. absurd (open_after_16 none), (λ none. refl, (λ none. refl, (λ none. refl, (λ none. refl, (λ none. refl, (λ none. refl, (λ none. refl, (λ none. absurd (open_after_24 none), (λ none. refl, (λ none. refl, tt))))))))))))))))))

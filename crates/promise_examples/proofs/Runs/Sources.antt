@@ -11,7 +11,7 @@ use Rattle.counter_code.specs.declared.counters.SetupAt.{SetupAt}
 use Rattle.counter_code.specs.Counters.{program_of}
 use Rattle.counter_code.specs.Layout.{image_of}
 use Rattle.counter_code.specs.Maps.{map_of}
-use Rattle.firmware_promises.specs.Counts.{commits, port_writes, chip_after}
+use Rattle.firmware_promises.specs.Counts.{commits, port_writes, reactions, chip_after}
 use Rattle.pic_regs.specs.Registers.{byte_at}
 use Rattle.firmware_promises.specs.MapNames.{states_in}
 use Rattle.promise_examples.proofs.Runs.Counting.{counter_of, pins_out, start, quiet, alone, puts}
@@ -52,7 +52,7 @@ wrapping = counter_of Int None 254 3 1
 wraps : states_in (map_of wrapping) (chip_after (on_one wrapping Int) 30) ≡ 1 ∷ []
 wraps = refl
 
-wraps_serially : state_after (program_of wrapping) (commits (map_of wrapping) (on_one wrapping Int) 30) ≡ Some (1 ∷ [])
+wraps_serially : state_after (program_of wrapping) (reactions (program_of wrapping) (map_of wrapping) (on_one wrapping Int) 30) ≡ Some (1 ∷ [])
 wraps_serially = refl
 
 shows_what_wrapped : port_writes (on_one wrapping Int) 30 ≡ puts 1 1 ∷ []

@@ -5,7 +5,7 @@ use Rattle.efrp_meaning.specs.Meaning.{state_after, ports_after}
 use Rattle.efrp_meaning.proofs.Examples.Programs.{tick}
 use Rattle.pic_machine.specs.declared.steps.Did.TheVariants.{Took, Ran}
 use Rattle.counter_code.specs.Maps as maps
-use Rattle.firmware_promises.specs.Counts.{commits, opens, port_writes, chip_after, count, latched_count, cleared_count, commit_count}
+use Rattle.firmware_promises.specs.Counts.{commits, opens, port_writes, reactions, chip_after, count, latched_count, cleared_count, commit_count}
 use Rattle.firmware_promises.specs.Firmware.{count_below}
 use Rattle.firmware_promises.specs.Follows.{reaction_puts}
 use Rattle.pic_regs.specs.Registers.{byte_at}
@@ -93,11 +93,11 @@ port_holds_2 = refl
 state_is_2 : states_in counter_map (chip_after two_ticks 25) ≡ 2 ∷ []
 state_is_2 = refl
 
--- The serial run of what was committed has this state and these port values.
-serial_state : state_after program (commits counter_map two_ticks 25) ≡ Some (states_in counter_map (chip_after two_ticks 25))
+-- The serial run of the reactions has this state and these port values.
+serial_state : state_after program (reactions program counter_map two_ticks 25) ≡ Some (states_in counter_map (chip_after two_ticks 25))
 serial_state = refl
 
-serial_ports : ports_after program (commits counter_map two_ticks 25) ≡ Some ((1 ∷ []) ∷ (2 ∷ []) ∷ [])
+serial_ports : ports_after program (reactions program counter_map two_ticks 25) ≡ Some ((1 ∷ []) ∷ (2 ∷ []) ∷ [])
 serial_ports = refl
 
 puts_of_2 : reaction_puts program (2 ∷ []) ≡ puts 2 2 ∷ []
