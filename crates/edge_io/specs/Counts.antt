@@ -1,3 +1,4 @@
+-- Counts of faults, which never fall.
 use Rattle.std.specs.Prelude.{ℕ, ◌≤◌, ◌+◌, ◌-◌, ◌^◌, min}
 
 -- The count rose, or stands at the greatest u64, where it stays.

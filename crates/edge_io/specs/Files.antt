@@ -1,3 +1,4 @@
+-- What is seen of files before and after a call, and what a read and a write answer and leave.
 use Rattle.std.specs.Prelude.{◌≡◌, ◌≢◌, ℕ, ◌<◌, ◌≤◌, List, length, Option, Some, None, Result, Ok, Err}
 use Rattle.edge_io.specs.declared.outside.TheConstants.{LONGEST_FILE}
 use Rattle.edge_io.specs.declared.faults.ReadFault.{ReadFault}
@@ -8,6 +9,13 @@ use Rattle.edge_io.specs.declared.faults.WriteFault.TheVariants as write
 -- The files that are held: the bytes under each name, where there is a file of that name.
 abbrev pub Held : Type 0
 Held = List ℕ → Option (List ℕ)
+
+-- What is seen of an object of files: the files that it holds, where it tells them, and how many of its reads and of its
+-- writes failed so far. A count stays at the greatest u64 once it is there.
+pub record FilesSeen : Type 0 where
+  pub told : Option Held
+  pub read_faults : ℕ
+  pub write_faults : ℕ
 
 -- Each file is as it was.
 abbrev pub SameFiles : Held → Held → Type 0
@@ -21,21 +29,29 @@ SameOthers old new name = (other : List ℕ) → other ≢ name → new other �
 abbrev pub Replaces : Held → Held → List ℕ → List ℕ → Type 0
 Replaces old new name bytes = (new name ≡ Some bytes) × SameOthers old new name
 
+-- A fact about two that are both there. Neither may be there alone.
+abbrev pub BothThere : Option Held → Option Held → (Held → Held → Type 0) → Type 0
+BothThere None None P = Unit {0}
+BothThere (Some old) (Some new) P = P old new
+BothThere None (Some new) P = ⊥
+BothThere (Some old) None P = ⊥
+
 -- A fact about the files before and after, where they are told. Whether they are told stays.
-abbrev pub BothTold : Option Held → Option Held → (Held → Held → Type 0) → Type 0
-BothTold None None P = Unit {0}
-BothTold (Some old) (Some new) P = P old new
-BothTold None (Some new) P = ⊥
-BothTold (Some old) None P = ⊥
+abbrev pub BothTold : FilesSeen → FilesSeen → (Held → Held → Type 0) → Type 0
+BothTold before after P = BothThere before.told after.told P
+
+-- A fact about one that may be there, where it is.
+abbrev pub IfThere : Option Held → (Held → Type 0) → Type 0
+IfThere None P = Unit {0}
+IfThere (Some files) P = P files
 
 -- A fact about the files, where they are told.
-abbrev pub IfTold : Option Held → (Held → Type 0) → Type 0
-IfTold None P = Unit {0}
-IfTold (Some files) P = P files
+abbrev pub IfTold : FilesSeen → (Held → Type 0) → Type 0
+IfTold seen P = IfThere seen.told P
 
 -- No file changes.
-abbrev pub KeepsFiles : Option Held → Option Held → Type 0
-KeepsFiles old new = BothTold old new SameFiles
+abbrev pub KeepsFiles : FilesSeen → FilesSeen → Type 0
+KeepsFiles before after = BothTold before after SameFiles
 
 -- What a read answers, by what is held under the name. No file, a file that is too long and one that isn't exclude one
 -- another, so `Missing` and `TooLong` come exactly where their lines hold, unless memory runs out. Where a file of at most
@@ -48,12 +64,12 @@ Answers held (Err read.Failed) = (bytes : List ℕ) × (held ≡ Some bytes) × 
 Answers held (Err read.Memory) = Unit {0}
 
 -- The same where the files are told; where they aren't, any answer may come.
-abbrev pub ReadGives : Option Held → List ℕ → Result (List ℕ) ReadFault → Type 0
-ReadGives files name answer = IfTold files (λ held. Answers (held name) answer)
+abbrev pub ReadGives : FilesSeen → List ℕ → Result (List ℕ) ReadFault → Type 0
+ReadGives before name answer = IfTold before (λ held. Answers (held name) answer)
 
 -- What a write leaves: the file, or after `Failed` anything under its name, or after `Memory` what was
 -- there. All other files are as they were.
-abbrev pub WriteLeaves : Option Held → Option Held → List ℕ → List ℕ → Result (Unit {0}) WriteFault → Type 0
-WriteLeaves old new name bytes (Ok done) = BothTold old new (λ before after. Replaces before after name bytes)
-WriteLeaves old new name bytes (Err write.Failed) = BothTold old new (λ before after. SameOthers before after name)
-WriteLeaves old new name bytes (Err write.Memory) = KeepsFiles old new
+abbrev pub WriteLeaves : FilesSeen → FilesSeen → List ℕ → List ℕ → Result (Unit {0}) WriteFault → Type 0
+WriteLeaves before after name bytes (Ok done) = BothTold before after (λ old new. Replaces old new name bytes)
+WriteLeaves before after name bytes (Err write.Failed) = BothTold before after (λ old new. SameOthers old new name)
+WriteLeaves before after name bytes (Err write.Memory) = KeepsFiles before after

@@ -1,6 +1,7 @@
-ghost use Rattle.std.specs.Prelude.{◌≡◌, ◌<◌, ◌≤◌, None, IfOk, IfSome, IsErrOf, length};
+// The system's files.
+ghost use Rattle.std.specs.Prelude.{◌≡◌, ◌<◌, ◌≤◌, IfOk, IfSome, IsErrOf, length};
 ghost use Rattle.edge_io.specs.Counts.{Rose};
-ghost use Rattle.edge_io.specs.Edge.{after_disk_read, after_disk_write};
+ghost use Rattle.edge_io.specs.Edge.{seen_on_disk, after_disk_read, after_disk_write};
 ghost use Rattle.edge_io.specs.Files.{KeepsFiles, ReadGives, WriteLeaves};
 
 use crate::faults::{ReadFault, WriteFault};
@@ -42,19 +43,15 @@ impl<'a, R: rt::Files> DiskFiles<'a, R> {
 }
 
 impl<'a, R: rt::Files> Files for DiskFiles<'a, R> {
-    ghost files = { λ _. None };
-
-    ghost read_faults = { λ d. d.read_faults };
-
-    ghost write_faults = { λ d. d.write_faults };
+    ghost seen = { seen_on_disk };
 
     /// `Missing` where the system finds no file of this name, and `Memory` also where the system lacks
     /// memory. Nothing past the first byte after `LONGEST_FILE` is kept.
     fn read(&mut self, alloc: Global, name: &str) -> Result<List<u8>, ReadFault>
-        ensures answer { ReadGives None name.now result }
+        ensures answer { ReadGives (seen_on_disk self.old) name.now result }
         ensures short { IfOk result (λ bytes. length bytes ≤ LONGEST_FILE) }
         ensures failed { IsErrOf result ReadFault.Failed → Rose self.old.read_faults self.new.read_faults }
-        ensures unchanged { KeepsFiles None None }
+        ensures unchanged { KeepsFiles (seen_on_disk self.old) (seen_on_disk self.new) }
         ensures read_count { self.old.read_faults ≤ self.new.read_faults }
         ensures write_count { self.old.write_faults ≤ self.new.write_faults }
         // Each `Err` is counted.
@@ -69,7 +66,7 @@ impl<'a, R: rt::Files> Files for DiskFiles<'a, R> {
 
     /// Whatever the system refuses is `Failed`, for the file may hold anything then.
     fn write(&mut self, _alloc: Global, name: &str, bytes: &[u8]) -> Result<(), WriteFault>
-        ensures files { WriteLeaves None None name.now bytes.now result }
+        ensures files { WriteLeaves (seen_on_disk self.old) (seen_on_disk self.new) name.now bytes.now result }
         ensures failed { IsErrOf result WriteFault.Failed → Rose self.old.write_faults self.new.write_faults }
         ensures read_count { self.old.read_faults ≤ self.new.read_faults }
         ensures write_count { self.old.write_faults ≤ self.new.write_faults }

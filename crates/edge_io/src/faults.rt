@@ -1,3 +1,4 @@
+// Why a call of the outside failed.
 ghost use Rattle.std.specs.Prelude.{◌≡◌};
 ghost use Rattle.std.specs.IoError.{error_kind};
 ghost use Rattle.edge_io.specs.Edge.{read_fault_of};
@@ -17,7 +18,7 @@ pub enum ReadFault {
     Failed,
     /// The file has more than `LONGEST_FILE` bytes.
     TooLong,
-    /// Want of memory.
+    /// Memory ran out.
     Memory,
 }
 
@@ -26,7 +27,7 @@ pub enum ReadFault {
 pub enum WriteFault {
     /// The outside failed. The count of write faults rose.
     Failed,
-    /// Want of memory.
+    /// Memory ran out.
     Memory,
 }
 
@@ -35,7 +36,7 @@ pub enum WriteFault {
 pub enum PutFault {
     /// The outside failed. The count of put faults rose.
     Failed,
-    /// Want of memory.
+    /// Memory ran out.
     Memory,
 }
 
@@ -47,7 +48,7 @@ impl From<AllocError> for ReadFault {
     }
 }
 
-/// No file for `NotFound`, want of memory for `OutOfMemory`, and `Failed` for every other kind of error.
+/// `Missing` for `NotFound`, `Memory` for `OutOfMemory`, and `Failed` for every other kind of error.
 impl From<io::Error> for ReadFault {
     ghost from_gives = { λ error fault. fault ≡ read_fault_of (error_kind error) };
 

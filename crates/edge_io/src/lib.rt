@@ -1,7 +1,7 @@
 //! What the program reads, writes and prints, behind two traits.
 //!
 //! Contracts see the files that are held, as a map from names to bytes, and the bytes that were put,
-//! where an object tells them, and counts of faults that never fall. `MemFiles`, `SureFiles`,
+//! where an object tells them, and counts of faults that never fall: all of it in one record, `seen`. `MemFiles`, `SureFiles`,
 //! `MemSink` and `SureSink` tell all; the first of each pair fails at the calls that it is told to, the
 //! second never. `DiskFiles` and `OutSink` are the edge to the real outside, and tell only their
 //! counts: what the system does with their bytes is trusted. `frp_tool` and `arrival_script` stand on
@@ -13,7 +13,7 @@ mod disk_files;
 mod faults;
 mod mem_files;
 mod mem_sink;
-mod named;
+mod named_files;
 mod out_sink;
 mod outside;
 mod sure_files;

@@ -1,12 +1,13 @@
-ghost use Rattle.std.specs.Prelude.{◌≡◌, ◌≤◌, ◌↔◌, [], Some, OnOk, OnErr, IfOk, IsErrOf, Contains, length};
+// Files in memory that fail where they are told to.
+ghost use Rattle.std.specs.Prelude.{◌≡◌, ◌≤◌, ◌↔◌, [], OnOk, OnErr, IfOk, IsErrOf, Contains, length};
 ghost use Rattle.std.specs.Option.{option_copied};
 ghost use Rattle.edge_io.specs.Counts.{Rose};
 ghost use Rattle.edge_io.specs.Files.{KeepsFiles, ReadGives, Replaces, WriteLeaves};
-ghost use Rattle.edge_io.specs.Memory.{held, IsReadable, after_read, after_write};
+ghost use Rattle.edge_io.specs.Memory.{held, seen_in_memory, IsReadable, after_read, after_write};
 
 use crate::calls::Calls;
 use crate::faults::{ReadFault, WriteFault};
-use crate::named::{NamedFiles, copied};
+use crate::named_files::{NamedFiles, copied};
 use crate::outside::{Files, LONGEST_FILE};
 use frp_tree::List;
 use std::alloc::{AllocError, Global};
@@ -50,7 +51,7 @@ impl MemFiles {
     }
 
     /// Leaves exactly these bytes under the name, and all other files as they were. This call has no
-    /// number. An `Err` is want of memory.
+    /// number. An `Err` says that memory ran out.
     pub fn place(&mut self, alloc: Global, name: &str, bytes: &[u8]) -> Result<(), AllocError>
         ensures ok { OnOk result (Replaces (held self.old.files) (held self.new.files) name.now bytes.now) }
         ensures after { self.new ≡ record self.old { files = self.new.files } }
@@ -68,19 +69,15 @@ impl MemFiles {
 }
 
 impl Files for MemFiles {
-    ghost files = { λ m. Some (held m.files) };
-
-    ghost read_faults = { λ m. m.read_faults };
-
-    ghost write_faults = { λ m. m.write_faults };
+    ghost seen = { seen_in_memory };
 
     /// A name that isn't held is `Missing` and a file that is too long `TooLong`, also at a number that
     /// fails, and without a count.
     fn read(&mut self, alloc: Global, name: &str) -> Result<List<u8>, ReadFault>
-        ensures answer { ReadGives (Some (held self.old.files)) name.now result }
+        ensures answer { ReadGives (seen_in_memory self.old) name.now result }
         ensures short { IfOk result (λ bytes. length bytes ≤ LONGEST_FILE) }
         ensures failed { IsErrOf result ReadFault.Failed → Rose self.old.read_faults self.new.read_faults }
-        ensures unchanged { KeepsFiles (Some (held self.old.files)) (Some (held self.new.files)) }
+        ensures unchanged { KeepsFiles (seen_in_memory self.old) (seen_in_memory self.new) }
         ensures read_count { self.old.read_faults ≤ self.new.read_faults }
         ensures write_count { self.old.write_faults ≤ self.new.write_faults }
         // It fails exactly at its numbers, where there is a file that can be read.
@@ -99,7 +96,7 @@ impl Files for MemFiles {
 
     /// At a number that fails no file changes.
     fn write(&mut self, alloc: Global, name: &str, bytes: &[u8]) -> Result<(), WriteFault>
-        ensures files { WriteLeaves (Some (held self.old.files)) (Some (held self.new.files)) name.now bytes.now result }
+        ensures files { WriteLeaves (seen_in_memory self.old) (seen_in_memory self.new) name.now bytes.now result }
         ensures failed { IsErrOf result WriteFault.Failed → Rose self.old.write_faults self.new.write_faults }
         ensures read_count { self.old.read_faults ≤ self.new.read_faults }
         ensures write_count { self.old.write_faults ≤ self.new.write_faults }

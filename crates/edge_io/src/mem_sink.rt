@@ -1,7 +1,8 @@
-ghost use Rattle.std.specs.Prelude.{◌≡◌, ◌≤◌, ◌↔◌, [], Some, IsErrOf, Contains};
+// A sink in memory that fails where it is told to.
+ghost use Rattle.std.specs.Prelude.{◌≡◌, ◌≤◌, ◌↔◌, [], IsErrOf, Contains};
 ghost use Rattle.edge_io.specs.Counts.{Rose};
 ghost use Rattle.edge_io.specs.Sinks.{PutLeaves};
-ghost use Rattle.edge_io.specs.Memory.{after_put};
+ghost use Rattle.edge_io.specs.Memory.{after_put, seen_by_sink};
 
 use crate::calls::Calls;
 use crate::faults::PutFault;
@@ -53,12 +54,10 @@ impl MemSink {
 }
 
 impl Sink for MemSink {
-    ghost taken = { λ s. Some s.taken };
-
-    ghost put_faults = { λ s. s.put_faults };
+    ghost seen = { seen_by_sink };
 
     fn put(&mut self, _alloc: Global, bytes: &[u8]) -> Result<(), PutFault>
-        ensures taken { PutLeaves (Some self.old.taken) (Some self.new.taken) bytes.now result }
+        ensures taken { PutLeaves (seen_by_sink self.old) (seen_by_sink self.new) bytes.now result }
         ensures failed { IsErrOf result PutFault.Failed → Rose self.old.put_faults self.new.put_faults }
         ensures count { self.old.put_faults ≤ self.new.put_faults }
         // It fails exactly at its numbers, and takes nothing then.

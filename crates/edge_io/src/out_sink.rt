@@ -1,5 +1,7 @@
-ghost use Rattle.std.specs.Prelude.{◌≡◌, ◌≤◌, None, IsErrOf, is_ok, if◌then◌else◌};
+// Standard output.
+ghost use Rattle.std.specs.Prelude.{◌≡◌, ◌≤◌, IsErrOf, is_ok, if◌then◌else◌};
 ghost use Rattle.edge_io.specs.Counts.{Rose, raised};
+ghost use Rattle.edge_io.specs.Edge.{seen_at_output};
 ghost use Rattle.edge_io.specs.Sinks.{PutLeaves};
 
 use crate::faults::PutFault;
@@ -33,12 +35,10 @@ impl<'a, R: Print> OutSink<'a, R> {
 }
 
 impl<'a, R: Print> Sink for OutSink<'a, R> {
-    ghost taken = { λ _. None };
-
-    ghost put_faults = { λ count. count };
+    ghost seen = { seen_at_output };
 
     fn put(&mut self, _alloc: Global, bytes: &[u8]) -> Result<(), PutFault>
-        ensures taken { PutLeaves None None bytes.now result }
+        ensures taken { PutLeaves (seen_at_output self.old) (seen_at_output self.new) bytes.now result }
         ensures failed { IsErrOf result PutFault.Failed → Rose self.old self.new }
         ensures count { self.old ≤ self.new }
         // Each `Err` is counted.

@@ -1,10 +1,11 @@
-ghost use Rattle.std.specs.Prelude.{◌≡◌, [], Some, OnOk, OnErr};
+// Files in memory that never fail.
+ghost use Rattle.std.specs.Prelude.{◌≡◌, [], OnOk, OnErr};
 ghost use Rattle.std.specs.Option.{option_copied};
 ghost use Rattle.edge_io.specs.Files.{Replaces};
-ghost use Rattle.edge_io.specs.Memory.{held};
+ghost use Rattle.edge_io.specs.Memory.{held, seen_surely};
 
 use crate::faults::{ReadFault, WriteFault};
-use crate::named::{NamedFiles, copied};
+use crate::named_files::{NamedFiles, copied};
 use crate::outside::Files;
 use frp_tree::List;
 use std::alloc::{AllocError, Global};
@@ -34,8 +35,8 @@ impl SureFiles {
         }
     }
 
-    /// Leaves exactly these bytes under the name, and all other files as they were. An `Err` is want of
-    /// memory.
+    /// Leaves exactly these bytes under the name, and all other files as they were. An `Err` says
+    /// that memory ran out.
     pub fn place(&mut self, alloc: Global, name: &str, bytes: &[u8]) -> Result<(), AllocError>
         ensures ok { OnOk result (Replaces (held self.old) (held self.new) name.now bytes.now) }
         ensures err { OnErr result (self.new ≡ self.old) }
@@ -52,11 +53,7 @@ impl SureFiles {
 }
 
 impl Files for SureFiles {
-    ghost files = { λ s. Some (held s) };
-
-    ghost read_faults = { λ _. 0 };
-
-    ghost write_faults = { λ _. 0 };
+    ghost seen = { seen_surely };
 
     fn read(&mut self, alloc: Global, name: &str) -> Result<List<u8>, ReadFault> {
         let bytes = self.files.short_file(name)?;

@@ -1,7 +1,7 @@
 use Rattle.std.proofs.Common.{◌≡◌, string_bytes}
 use Rattle.std.proofs.lemmas.Result.{IfOk-at_ok}
 use Rattle.edge_io.proofs.HeldFileFacts.{named-replaces}
-use Rattle.edge_io.proofs.named.NamedFiles.place.Goals as goal
+use Rattle.edge_io.proofs.named_files.NamedFiles.place.Goals as goal
 
 -- the key has the bytes of the name, and the value is the bytes
 pub returns-clause-ok : goal.returns-clause-ok

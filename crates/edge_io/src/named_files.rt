@@ -1,3 +1,4 @@
+// A map from names to bytes, on which both kinds of files in memory stand.
 ghost use Rattle.std.specs.Prelude.{◌≡◌, ◌≤◌, ◌⊎◌, [], Some, Err, OnOk, OnErr, IfOk, IfErr, length};
 ghost use Rattle.std.specs.Option.{option_copied};
 ghost use Rattle.edge_io.specs.Files.{Answers, Replaces};
@@ -56,7 +57,7 @@ impl NamedFiles {
         Ok(bytes)
     }
 
-    /// Leaves exactly these bytes under the name. An `Err` is want of memory.
+    /// Leaves exactly these bytes under the name. An `Err` says that memory ran out.
     pub(crate) fn place(
         &mut self,
         alloc: Global,
@@ -73,7 +74,7 @@ impl NamedFiles {
     }
 }
 
-/// A list of its own with these bytes. An `Err` is want of memory.
+/// A list of its own with these bytes. An `Err` says that memory ran out.
 pub(crate) fn copied(alloc: Global, bytes: &[u8]) -> Result<List<u8>, AllocError>
     ensures { IfOk result (λ list. list ≡ bytes.now) }
 {

@@ -1,6 +1,6 @@
 use Rattle.std.proofs.Common.{rules}
 use Rattle.edge_io.proofs.HeldFileFacts.{held-named}
-use Rattle.edge_io.proofs.named.NamedFiles.file.Goals as goal
+use Rattle.edge_io.proofs.named_files.NamedFiles.file.Goals as goal
 
 -- what is held under the name is what the map has there
 pub returns : goal.returns
