@@ -2,7 +2,7 @@
 use Rattle.std.proofs.Common.{◌≡◌, ℕ, zero, suc, ◌+◌, ◌-◌, ◌<◌, Bool, true, false, List, [], ◌++◌, length, take, drop, Option, Some, None, Result, Ok, Err, refl, sym, ap, subst, ◌∙◌, inl, inr, add-one, arith, below_more}
 use Rattle.std.proofs.Math.Seq.{take-append_seam}
 use Rattle.std.proofs.lemmas.List.{append-nil, append_assoc, take-append-drop}
-use Rattle.edge_io.specs.Sinks.{Appends, AppendsFront}
+use Rattle.edge_io.specs.Sinks.{Appends, AppendsPrefix}
 use Rattle.pic_machine.specs.Run.{Log}
 use Rattle.pic_machine.specs.declared.steps.Did.TheVariants.{Stopped}
 use Rattle.pic_machine.specs.declared.steps.Why.{Why}
@@ -42,7 +42,7 @@ sends-all o new held all kept added e a k = record { sent = all; appended = a; s
 pub front-none : (o : Option (List ℕ)) (held added : List ℕ) → SendsFront o held o added
 front-none o held added = record { sent = []; rest = held ++ added; appended = appends-none o; split = refl }
 
-pub front-put : (o new : Option (List ℕ)) (held all added : List ℕ) → all ≡ held ++ added → AppendsFront o new all → SendsFront o held new added
+pub front-put : (o new : Option (List ℕ)) (held all added : List ℕ) → all ≡ held ++ added → AppendsPrefix o new all → SendsFront o held new added
 front-put o new held all added e f = record { sent = take f.0 all; rest = drop f.0 all; appended = f.1; split = sym e ∙ sym (take-append-drop f.0 all) }
 
 pub adds-flush : (o new : Option (List ℕ)) (held all kept added : List ℕ) (answer : Result (Unit {0}) TraceFault) → all ≡ held ++ added → Flushes o all new kept answer → Adds o held new kept added answer
@@ -68,7 +68,7 @@ sends-front a b c held kept x y p q = record {
 }
 
 -- A front of a text is one of a longer text.
-pub front-longer : (old new : Option (List ℕ)) (x more text : List ℕ) → SendsFront old [] new x → text ≡ x ++ more → AppendsFront old new text
+pub front-longer : (old new : Option (List ℕ)) (x more text : List ℕ) → SendsFront old [] new x → text ≡ x ++ more → AppendsPrefix old new text
 front-longer old new x more text p e =
     let spelled : take (length p.sent) text ≡ p.sent =
     ap (take (length p.sent)) (e ∙ ap (λ l. l ++ more) p.split ∙ append_assoc p.sent p.rest more) ∙ take-append_seam p.sent (p.rest ++ more) in
@@ -133,7 +133,7 @@ step-fails m log n k old mid new kept last f inside goes sends adds = go f adds
     go fault.Failed a = traces-front m log n old new (lines_of m log (k + 1)) fault.Failed (due-behind m log k n inside goes) (front a) (λ step address why e. cc)
     go fault.Memory a = traces-front m log n old new (lines_of m log (k + 1)) fault.Memory (due-behind m log k n inside goes) (front a) (λ step address why e. cc)
 
-flush-front : (old mid new : Option (List ℕ)) (kept x : List ℕ) → Sends old [] mid kept x → AppendsFront mid new kept → SendsFront old [] new x
+flush-front : (old mid new : Option (List ℕ)) (kept x : List ℕ) → Sends old [] mid kept x → AppendsPrefix mid new kept → SendsFront old [] new x
 flush-front old mid new kept x sends front =
     subst (SendsFront old [] new) (append-nil x) (sends-front old mid new [] kept x [] sends (front-put mid new kept kept [] (sym (append-nil kept)) front))
 

@@ -1,5 +1,5 @@
 use Rattle.std.specs.Prelude.{◌≡◌, ℕ, ◌+◌, ◌<◌, ◌≤◌, List, [], ◌∷◌, ◌++◌, Option, Result, Ok, Err}
-use Rattle.edge_io.specs.Sinks.{Appends, AppendsFront}
+use Rattle.edge_io.specs.Sinks.{Appends, AppendsPrefix}
 use Rattle.arrival_script.specs.declared.scripts.Arrival.{Arrival}
 use Rattle.arrival_script.specs.declared.traces.TraceFault.{TraceFault}
 use Rattle.arrival_script.specs.declared.traces.TraceFault.TheVariants as fault
@@ -32,5 +32,5 @@ Adds old held new kept added (Err fault.Memory) = SendsFront old held new added
 abbrev pub Flushes : Option (List ℕ) → List ℕ → Option (List ℕ) → List ℕ → Result (Unit {0}) TraceFault → Type 0
 Flushes old held new kept (Ok done) = Appends old new held × (kept ≡ [])
 Flushes old held new kept (Err (fault.Stopped step address why)) = ⊥
-Flushes old held new kept (Err fault.Failed) = AppendsFront old new held
-Flushes old held new kept (Err fault.Memory) = AppendsFront old new held
+Flushes old held new kept (Err fault.Failed) = AppendsPrefix old new held
+Flushes old held new kept (Err fault.Memory) = AppendsPrefix old new held

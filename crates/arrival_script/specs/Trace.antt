@@ -2,7 +2,7 @@ use Rattle.std.specs.Prelude.{◌≡◌, ℕ, zero, suc, ◌+◌, ◌<◌, true,
 use Rattle.std.specs.List.{flat_map, range_with_len, repeat}
 use Rattle.std.specs.Fmt.{decimal}
 use Rattle.frp_tree.specs.Digits.{hex2}
-use Rattle.edge_io.specs.Sinks.{Appends, AppendsFront}
+use Rattle.edge_io.specs.Sinks.{Appends, AppendsPrefix}
 use Rattle.pic_isa.specs.declared.sources.Source.{Source}
 use Rattle.pic_isa.specs.Sources.{source_name}
 use Rattle.pic_isa.specs.Names.{name_of_port}
@@ -128,5 +128,5 @@ abbrev pub Traces : Map → Log → ℕ → Option (List ℕ) → Option (List �
 Traces m log n old new (Ok done) = GoesOn log n × Appends old new (trace_text m log n)
 Traces m log n old new (Err (fault.Stopped k address why)) =
     StopsFirst log n k × ((log k).did ≡ Stopped address why) × Appends old new (lines_of m log (k + 1))
-Traces m log n old new (Err fault.Failed) = (text : List ℕ) × IsDue m log n text × AppendsFront old new text
-Traces m log n old new (Err fault.Memory) = (text : List ℕ) × IsDue m log n text × AppendsFront old new text
+Traces m log n old new (Err fault.Failed) = (text : List ℕ) × IsDue m log n text × AppendsPrefix old new text
+Traces m log n old new (Err fault.Memory) = (text : List ℕ) × IsDue m log n text × AppendsPrefix old new text

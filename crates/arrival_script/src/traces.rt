@@ -107,9 +107,9 @@ fn stop_of(did: Did) -> Option<(u16, Why)>
 
 // Puts the text that is held back. Its memory is kept.
 fn flush<S: Sink>(alloc: Global, text: &mut String, out: &mut S) -> Result<(), TraceFault>
-    ensures sent { Flushes (S.taken out.old) (string_bytes text.old) (S.taken out.new) (string_bytes text.new) result }
-    ensures failed { IsErrOf result TraceFault.Failed → Rose (S.put_faults out.old) (S.put_faults out.new) }
-    ensures count { S.put_faults out.old ≤ S.put_faults out.new }
+    ensures sent { Flushes (S.seen out.old).taken (string_bytes text.old) (S.seen out.new).taken (string_bytes text.new) result }
+    ensures failed { IsErrOf result TraceFault.Failed → Rose (S.seen out.old).put_faults (S.seen out.new).put_faults }
+    ensures count { (S.seen out.old).put_faults ≤ (S.seen out.new).put_faults }
 {
     out.put(alloc, text.as_bytes())?;
     text.clear();
@@ -128,9 +128,9 @@ fn tell_step<S: Sink>(
 ) -> Result<(), TraceFault>
     requires { IsMap map.now }
     ensures sent { (told : Step) → report.now ≡ stepped told → registers_of regs.now ≡ told.after.regs
-        → Adds (S.taken out.old) (string_bytes text.old) (S.taken out.new) (string_bytes text.new) (step_lines map.now step told) result }
-    ensures failed { IsErrOf result TraceFault.Failed → Rose (S.put_faults out.old) (S.put_faults out.new) }
-    ensures count { S.put_faults out.old ≤ S.put_faults out.new }
+        → Adds (S.seen out.old).taken (string_bytes text.old) (S.seen out.new).taken (string_bytes text.new) (step_lines map.now step told) result }
+    ensures failed { IsErrOf result TraceFault.Failed → Rose (S.seen out.old).put_faults (S.seen out.new).put_faults }
+    ensures count { (S.seen out.old).put_faults ≤ (S.seen out.new).put_faults }
 {
     write_step(text, map, step, report, regs)?;
     if text.len() < PAGE {
@@ -153,9 +153,9 @@ pub fn trace<S: Sink>(
     requires writable { IsWritable image.now }
     requires map { IsMap map.now }
     requires script { IsScript s.now }
-    ensures traced { Traces map.now (run image.now (start_of s.now) (sets_of s.now)) s.now.steps (S.taken out.old) (S.taken out.new) result }
-    ensures failed { IsErrOf result TraceFault.Failed → Rose (S.put_faults out.old) (S.put_faults out.new) }
-    ensures count { S.put_faults out.old ≤ S.put_faults out.new }
+    ensures traced { Traces map.now (run image.now (start_of s.now) (sets_of s.now)) s.now.steps (S.seen out.old).taken (S.seen out.new).taken result }
+    ensures failed { IsErrOf result TraceFault.Failed → Rose (S.seen out.old).put_faults (S.seen out.new).put_faults }
+    ensures count { (S.seen out.old).put_faults ≤ (S.seen out.new).put_faults }
 {
     let mut chip = Chip::power_on(image, &start_of(s));
     let mut text = String::new(alloc);

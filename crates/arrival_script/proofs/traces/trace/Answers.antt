@@ -16,7 +16,7 @@ use Rattle.arrival_script.proofs.traces.trace.Goals as goal
 
 pub loop-step-init : goal.loop-step-init
 loop-step-init g c =
-    let o = g.S.Sink.taken c.args.out.now in
+    let o = (g.S.Sink.seen c.args.out.now).taken in
     record {
       running = subst (λ pending. Running c.args.map.now c.args.image.now c.args.s.now 0 c.power_on-chip.result pending 0 o o (string_bytes c.new-text.result)) (sym c.as_slice-pending.ensures)
           (running-none c.args.map.now c.args.image.now c.args.s.now c.power_on-chip.result o (string_bytes c.new-text.result) c.requires.script
@@ -30,8 +30,8 @@ returns-in_err-tell_step-clause-traced g c =
     let image = c.args.image.now in
     let s = c.args.s.now in
     let k = c.loop-step.step in
-    let old = g.S.Sink.taken c.args.out.now in
-    let mid = g.S.Sink.taken c.loop-step.out in
+    let old = (g.S.Sink.seen c.args.out.now).taken in
+    let mid = (g.S.Sink.seen c.loop-step.out).taken in
     let kept = string_bytes c.loop-step.text in
     let so = c.loop-step.invariant.running in
     let lg = log_of image s in
@@ -41,7 +41,7 @@ returns-in_err-tell_step-clause-traced g c =
     let chip = c.step-report.ensures.chip ∙ ap (λ (t : Step). t.after) st in
     let regs = c.regs.ensures ∙ ap (λ (x : Chip). x.regs) chip in
     let f = c.in_err-tell_step.field-0.0 in
-    let new = g.S.Sink.taken c.tell_step.new.out in
+    let new = (g.S.Sink.seen c.tell_step.new.out).taken in
     traces-error m lg s.steps old new c.from_residual.result f c.from_residual.ensures.1
     (step-fails m lg s.steps k old mid new kept (string_bytes c.tell_step.new.text) f inside so.goes so.sends (c.in_err-tell_step.ensures.sent (lg k) report regs))
 
@@ -51,8 +51,8 @@ returns-in_err-flush-clause-traced g c =
     let image = c.args.image.now in
     let s = c.args.s.now in
     let k = c.loop-step.step in
-    let old = g.S.Sink.taken c.args.out.now in
-    let mid = g.S.Sink.taken c.loop-step.out in
+    let old = (g.S.Sink.seen c.args.out.now).taken in
+    let mid = (g.S.Sink.seen c.loop-step.out).taken in
     let kept = string_bytes c.loop-step.text in
     let so = c.loop-step.invariant.running in
     let lg = log_of image s in
@@ -61,12 +61,12 @@ returns-in_err-flush-clause-traced g c =
     let report = c.step-report.ensures.report ∙ ap stepped st in
     let chip = c.step-report.ensures.chip ∙ ap (λ (t : Step). t.after) st in
     let regs = c.regs.ensures ∙ ap (λ (x : Chip). x.regs) chip in
-    let sent = g.S.Sink.taken c.tell_step.new.out in
+    let sent = (g.S.Sink.seen c.tell_step.new.out).taken in
     let last = string_bytes c.tell_step.new.text in
     let did = sym (ap (λ (r : Stepped). r.did) report) ∙ c.in-Some.ensures in
     let sends = sent-more m image s k old mid sent kept last so.sends (c.in_ok-tell_step.ensures.sent (lg k) report regs) in
     let f = c.in_err-flush.field-0.0 in
-    let new = g.S.Sink.taken c.flush.new.out in
+    let new = (g.S.Sink.seen c.flush.new.out).taken in
     traces-error m lg s.steps old new c.from_residual-in_err-flush.result f c.from_residual-in_err-flush.ensures.1
     (stop-fails m lg s.steps k old sent new last (string_bytes c.flush.new.text) f inside so.goes (ap is_stop did) sends c.in_err-flush.ensures.sent)
 
@@ -76,8 +76,8 @@ returns-in-Some-clause-traced g c =
     let image = c.args.image.now in
     let s = c.args.s.now in
     let k = c.loop-step.step in
-    let old = g.S.Sink.taken c.args.out.now in
-    let mid = g.S.Sink.taken c.loop-step.out in
+    let old = (g.S.Sink.seen c.args.out.now).taken in
+    let mid = (g.S.Sink.seen c.loop-step.out).taken in
     let kept = string_bytes c.loop-step.text in
     let so = c.loop-step.invariant.running in
     let lg = log_of image s in
@@ -86,11 +86,11 @@ returns-in-Some-clause-traced g c =
     let report = c.step-report.ensures.report ∙ ap stepped st in
     let chip = c.step-report.ensures.chip ∙ ap (λ (t : Step). t.after) st in
     let regs = c.regs.ensures ∙ ap (λ (x : Chip). x.regs) chip in
-    let sent = g.S.Sink.taken c.tell_step.new.out in
+    let sent = (g.S.Sink.seen c.tell_step.new.out).taken in
     let last = string_bytes c.tell_step.new.text in
     let did = sym (ap (λ (r : Stepped). r.did) report) ∙ c.in-Some.ensures in
     let sends = sent-more m image s k old mid sent kept last so.sends (c.in_ok-tell_step.ensures.sent (lg k) report regs) in
-    stop-told m lg s.steps k c.in-Some.address c.in-Some.why old sent (g.S.Sink.taken c.flush.new.out) last inside so.goes did sends c.in_ok-flush.ensures.sent.0
+    stop-told m lg s.steps k c.in-Some.address c.in-Some.why old sent (g.S.Sink.seen c.flush.new.out).taken last inside so.goes did sends c.in_ok-flush.ensures.sent.0
 
 pub loop-step-preserved : goal.loop-step-preserved
 loop-step-preserved g c =
@@ -98,8 +98,8 @@ loop-step-preserved g c =
     let image = c.args.image.now in
     let s = c.args.s.now in
     let k = c.loop-step.step in
-    let old = g.S.Sink.taken c.args.out.now in
-    let mid = g.S.Sink.taken c.loop-step.out in
+    let old = (g.S.Sink.seen c.args.out.now).taken in
+    let mid = (g.S.Sink.seen c.loop-step.out).taken in
     let kept = string_bytes c.loop-step.text in
     let so = c.loop-step.invariant.running in
     let lg = log_of image s in
@@ -108,7 +108,7 @@ loop-step-preserved g c =
     let report = c.step-report.ensures.report ∙ ap stepped st in
     let chip = c.step-report.ensures.chip ∙ ap (λ (t : Step). t.after) st in
     let regs = c.regs.ensures ∙ ap (λ (x : Chip). x.regs) chip in
-    let new = g.S.Sink.taken c.tell_step.new.out in
+    let new = (g.S.Sink.seen c.tell_step.new.out).taken in
     record {
       running = running-more m image s k c.loop-step.chip c.step-report.new.self c.loop-step.pending.now c.next_arrivals-arrivals.result.1.now c.loop-step.deepest c.greater-deepest.result old mid new kept (string_bytes c.tell_step.new.text)
           so chip c.step-report.ensures.memory (sym (ap (λ (r : Stepped). is_stop r.did) report) ∙ c.in_default.ensures) c.next_arrivals-arrivals.ensures.rise c.next_arrivals-arrivals.ensures.later
@@ -123,8 +123,8 @@ loop-step-preserved-then-is_plain g c =
     let image = c.args.image.now in
     let s = c.args.s.now in
     let k = c.loop-step.step in
-    let old = g.S.Sink.taken c.args.out.now in
-    let mid = g.S.Sink.taken c.loop-step.out in
+    let old = (g.S.Sink.seen c.args.out.now).taken in
+    let mid = (g.S.Sink.seen c.loop-step.out).taken in
     let kept = string_bytes c.loop-step.text in
     let so = c.loop-step.invariant.running in
     let lg = log_of image s in
@@ -147,8 +147,8 @@ returns-in_err-write_end-clause-traced g c =
     let image = c.args.image.now in
     let s = c.args.s.now in
     let k = c.loop-step.step in
-    let old = g.S.Sink.taken c.args.out.now in
-    let mid = g.S.Sink.taken c.loop-step.out in
+    let old = (g.S.Sink.seen c.args.out.now).taken in
+    let mid = (g.S.Sink.seen c.loop-step.out).taken in
     let kept = string_bytes c.loop-step.text in
     let so = c.loop-step.invariant.running in
     let lg = log_of image s in
@@ -164,8 +164,8 @@ returns-clause-traced g c =
     let image = c.args.image.now in
     let s = c.args.s.now in
     let k = c.loop-step.step in
-    let old = g.S.Sink.taken c.args.out.now in
-    let mid = g.S.Sink.taken c.loop-step.out in
+    let old = (g.S.Sink.seen c.args.out.now).taken in
+    let mid = (g.S.Sink.seen c.loop-step.out).taken in
     let kept = string_bytes c.loop-step.text in
     let so = c.loop-step.invariant.running in
     let lg = log_of image s in
@@ -176,4 +176,4 @@ returns-clause-traced g c =
     let depth = so.greatest ∙ ap (λ i. deepest lg i) same in
     let regs = c.regs-2.ensures ∙ ap (λ (x : Chip). x.regs) (so.chip_is ∙ ap (chip_at image s) same) ∙ sym (registers-after image s n) in
     let written = c.in_ok-write_end.ensures ∙ ap (λ l. kept ++ l) (end-is m lg n c.loop-step.deepest (registers_of c.regs-2.result.now) depth regs) in
-    end-flushed m lg n old mid (g.S.Sink.taken c.flush-2.new.out) kept (string_bytes c.write_end.new.text) (string_bytes c.flush-2.new.text) c.flush-2.result goes sends written c.flush-2.ensures.sent
+    end-flushed m lg n old mid (g.S.Sink.seen c.flush-2.new.out).taken kept (string_bytes c.write_end.new.text) (string_bytes c.flush-2.new.text) c.flush-2.result goes sends written c.flush-2.ensures.sent
