@@ -19,6 +19,7 @@ pub mod TableFacts
 pub mod TableImageFacts
 pub mod TextLineFacts
 pub mod UniqueLaws
+pub mod WordsFromLaws
 pub mod WritableLaws
 pub mod WrittenLaws
 pub mod WrittenRecordFacts
