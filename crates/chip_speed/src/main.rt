@@ -1,30 +1,21 @@
-//! The program `chip_speed STEPS`: a loop of mixed instructions runs on the chip for so many steps, with no
-//! arrivals, and then the number of steps, the program counter and W are printed. The time that this takes tells
+//! The program `chip_speed STEPS`: a loop of mixed instructions runs on the chip for so many steps, at
+//! which nothing comes from outside, and then the number of steps, the program counter and W are printed. The time that this takes tells
 //! how fast the simulator is.
 #![tactic(auto)]
 
-ghost use Rattle.std.specs.Prelude.{◌≡◌, ◌≤◌, IfOk, length};
-ghost use Rattle.hex_file.specs.Written.{IsWritable};
-ghost use Rattle.pic_regs.specs.Arrivals.{set_of};
+ghost use Rattle.std.specs.Prelude.{◌≡◌};
+ghost use Rattle.pic_machine.specs.Boundary.{no_outer};
 ghost use Rattle.pic_machine.specs.Run.{after};
 ghost use Rattle.pic_machine.specs.State.{chip_of, memory_of};
 
 use anyhow::{Context, Result};
-use frp_tree::List;
-use hex_file::{Image, Word};
+use hex_file::Image;
+use pic_isa::bits::RP0;
+use pic_isa::registers::{FSR, INDF, PORTB, STATUS};
 use pic_isa::{Dest, Instr, encode};
 use pic_machine::Chip;
 use pic_regs::Start;
-use std::alloc::{AllocError, Global};
 use std::env;
-
-const INDF: u8 = 0x00;
-
-const STATUS: u8 = 0x03;
-
-const FSR: u8 = 0x04;
-
-const PORTB: u8 = 0x06;
 
 // Where the loop begins, and its subroutine.
 const LOOP: u16 = 2;
@@ -49,9 +40,9 @@ fn program() -> [u16; 17] {
         }),
         encode(&Instr::Decfsz { f: 0x23, d: f }),
         encode(&Instr::Call { k: SUBROUTINE }),
-        encode(&Instr::Bsf { f: STATUS, b: 5 }),
+        encode(&Instr::Bsf { f: STATUS, b: RP0 }),
         encode(&Instr::Movwf { f: 0x20 }),
-        encode(&Instr::Bcf { f: STATUS, b: 5 }),
+        encode(&Instr::Bcf { f: STATUS, b: RP0 }),
         encode(&Instr::Addwf { f: INDF, d: f }),
         encode(&Instr::Movwf { f: PORTB }),
         encode(&Instr::Goto { k: LOOP }),
@@ -59,31 +50,12 @@ fn program() -> [u16; 17] {
     ]
 }
 
-// The image of words from address 0 on, of which the low 14 bits count.
-fn image(alloc: Global, program: &[u16]) -> Result<Image, AllocError>
-    requires { length program.now ≤ 8192 }
-    ensures { IfOk result (λ image. IsWritable image) }
-{
-    let mut words = List::new(alloc);
-    for (address, word) in program.iter().enumerate() {
-        words.push(Word {
-            address: address as u16,
-            word: *word % 0x4000,
-        })?;
-    }
-    Ok(Image {
-        words,
-        config: None,
-        aside: List::new(alloc),
-    })
-}
-
-// So many steps with no arrivals.
+// So many steps at which nothing comes from outside.
 fn run(chip: &mut Chip, steps: u32)
-    ensures { chip_of chip.new ≡ after (memory_of chip.old) (chip_of chip.old) (λ n. set_of 0x000) steps }
+    ensures { chip_of chip.new ≡ after (memory_of chip.old) (chip_of chip.old) (λ n. no_outer) steps }
 {
     for _step in 0..steps {
-        let _ = chip.step(0x000);
+        let _ = chip.step(0x000, false);
     }
 }
 
@@ -95,7 +67,7 @@ fn main(rt: HostRuntime) -> Result<()> {
         .as_str()
         .parse::<u32>()
         .context("the number of steps is no number")?;
-    let image = image(rt.alloc(), &program())?;
+    let image = Image::of_words(rt.alloc(), &program())?;
     let mut chip = Chip::power_on(
         &image,
         &Start {

@@ -2,8 +2,6 @@
 #![tactic(auto)]
 
 #[cfg(test)]
-mod images;
-#[cfg(test)]
 mod machine_tests;
 #[cfg(test)]
 mod register_tests;

@@ -1,3 +1,5 @@
+// Registers, arrivals and requests.
+
 use pic_isa::Source;
 use pic_regs::{Latch, Regs, Start, canonical};
 

@@ -1,3 +1,5 @@
+// Instruction words.
+
 use pic_isa::{Dest, Instr, decode};
 
 #[test]

@@ -1,13 +1,14 @@
 -- What a word is and the table of words agree: `instruction_of` finds the row of which the word is one, and no other.
 use Rattle.std.specs.Prelude.{bit_and}
-use Rattle.std.proofs.Common.{◌≡◌, ℕ, zero, suc, ◌+◌, ◌-◌, ◌*◌, ◌/◌, ◌%◌, ◌^◌, ◌<◌, ◌≤◌, Bool, true, false, ◌&&◌, ◌==◌, nat_lt, Option, Some, None, refl, sym, ap, ◌∙◌, arith, lit<, lit≤, ◌⊎◌, inl, inr}
-use Rattle.std.proofs.lemmas.Bool.{eqb-true, ltb-true}
+use Rattle.std.proofs.Common.{rules, ◌≡◌, ℕ, zero, suc, ◌+◌, ◌-◌, ◌*◌, ◌/◌, ◌%◌, ◌^◌, ◌<◌, ◌≤◌, Bool, true, false, ◌&&◌, ◌==◌, nat_lt, Option, Some, None, refl, sym, ap, ◌∙◌, arith, lit<, lit≤, ◌⊎◌, inl, inr}
+use Rattle.std.proofs.lemmas.Bool.{and_parts, eqb-true, ltb-true}
 use Rattle.std.proofs.lemmas.Nat.{and_mask, and_mod, and_shr}
 use Rattle.std.proofs.lemmas.Nat.Bits.{and_high}
 use Rattle.pic_isa.specs.declared.instructions.Dest.{Dest}
 use Rattle.pic_isa.specs.declared.instructions.Dest.TheVariants.{W, F}
 use Rattle.pic_isa.specs.declared.instructions.Instr.{Instr}
 use Rattle.pic_isa.specs.declared.instructions.Instr.TheVariants.{Addwf, Andwf, Clrf, Clrw, Comf, Decf, Decfsz, Incf, Incfsz, Iorwf, Movf, Movwf, Nop, Rlf, Rrf, Subwf, Swapf, Xorwf, Bcf, Bsf, Btfsc, Btfss, Addlw, Andlw, Call, Clrwdt, Goto, Iorlw, Movlw, Retfie, Retlw, Return, Sleep, Sublw, Xorlw}
+use Rattle.pic_isa.proofs.WordLaws.{dest_bit_small}
 use Rattle.pic_isa.specs.Instructions.{FieldsFit, IsWordOf, dest_bit, dest_of, word_of, free_bits, row_of, instruction_of}
 
 -- A test of the fields.
@@ -48,49 +49,15 @@ fits Sleep = true
 fits (Sublw k) = nat_lt k 256
 fits (Xorlw k) = nat_lt k 256
 
-both_true : (x y : Bool) → (x && y) ≡ true → (x ≡ true) × (y ≡ true)
-both_true true y e = (refl, e)
-both_true false y e = (e, cc)
-
 both_below : (f b : ℕ) → (nat_lt f 128 && nat_lt b 8) ≡ true → (f < 128) × (b < 8)
-both_below f b e = let h = both_true (nat_lt f 128) (nat_lt b 8) e in (ltb-true f 128 h.0, ltb-true b 8 h.1)
+both_below f b e = let h = and_parts (nat_lt f 128) (nat_lt b 8) e in (ltb-true f 128 h.0, ltb-true b 8 h.1)
 
 fits-true : (i : Instr) → fits i ≡ true → FieldsFit i
-fits-true (Addwf f d) e = ltb-true f 128 e
-fits-true (Andwf f d) e = ltb-true f 128 e
-fits-true (Clrf f) e = ltb-true f 128 e
-fits-true Clrw e = tt
-fits-true (Comf f d) e = ltb-true f 128 e
-fits-true (Decf f d) e = ltb-true f 128 e
-fits-true (Decfsz f d) e = ltb-true f 128 e
-fits-true (Incf f d) e = ltb-true f 128 e
-fits-true (Incfsz f d) e = ltb-true f 128 e
-fits-true (Iorwf f d) e = ltb-true f 128 e
-fits-true (Movf f d) e = ltb-true f 128 e
-fits-true (Movwf f) e = ltb-true f 128 e
-fits-true Nop e = tt
-fits-true (Rlf f d) e = ltb-true f 128 e
-fits-true (Rrf f d) e = ltb-true f 128 e
-fits-true (Subwf f d) e = ltb-true f 128 e
-fits-true (Swapf f d) e = ltb-true f 128 e
-fits-true (Xorwf f d) e = ltb-true f 128 e
 fits-true (Bcf f b) e = both_below f b e
 fits-true (Bsf f b) e = both_below f b e
 fits-true (Btfsc f b) e = both_below f b e
 fits-true (Btfss f b) e = both_below f b e
-fits-true (Addlw k) e = ltb-true k 256 e
-fits-true (Andlw k) e = ltb-true k 256 e
-fits-true (Call k) e = ltb-true k 2048 e
-fits-true Clrwdt e = tt
-fits-true (Goto k) e = ltb-true k 2048 e
-fits-true (Iorlw k) e = ltb-true k 256 e
-fits-true (Movlw k) e = ltb-true k 256 e
-fits-true Retfie e = tt
-fits-true (Retlw k) e = ltb-true k 256 e
-fits-true Return e = tt
-fits-true Sleep e = tt
-fits-true (Sublw k) e = ltb-true k 256 e
-fits-true (Xorlw k) e = ltb-true k 256 e
+fits-true _ e = search (rules, ltb-true)
 
 -- A test of what was found, and the same for all words of 14 bits.
 abbrev agrees : ℕ → Option Instr → Bool
@@ -109,7 +76,7 @@ each_below : (n word : ℕ) → all_below n ≡ true → word < n → agrees wor
 unfolding all_below
 each_below zero word all below = absurd (omega (arith, below))
 each_below (suc n) word all below =
-    let parts = both_true (agrees n (instruction_of n)) (all_below n) all in
+    let parts = and_parts (agrees n (instruction_of n)) (all_below n) all in
     elim (below_or_at word n below) [
       | inl here ↦ ap (λ w. agrees w (instruction_of w)) here ∙ parts.0
       | inr less ↦ each_below n word parts.1 less
@@ -121,7 +88,7 @@ each_below (suc n) word all below =
 -- What is found is a row of which the word is one.
 pub found-is_row : (word : ℕ) (i : Instr) → word < 0x4000 → instruction_of word ≡ Some i → IsWordOf i word × FieldsFit i
 found-is_row word i below found =
-    let test = both_true (bit_and word (0x3FFF - free_bits i) == word_of i) (fits i) (sym (ap (agrees word) found) ∙ each_below 0x4000 word all_words below) in
+    let test = and_parts (bit_and word (0x3FFF - free_bits i) == word_of i) (fits i) (sym (ap (agrees word) found) ∙ each_below 0x4000 word all_words below) in
     ((below, eqb-true (bit_and word (0x3FFF - free_bits i)) (word_of i) test.0), fits-true i test.1)
 
 -- A word by its upper six and its lower eight bits.
@@ -133,10 +100,6 @@ by_parts word high low e below =
 -- A word with no bit that is ignored is the row's.
 whole : (word value : ℕ) → word < 0x4000 → bit_and word 0x3FFF ≡ value → word ≡ value
 whole word value below e = (let m : word ≡ word % 2 ^ 14 = omega (arith, below) in m) ∙ sym (and_mask word 14) ∙ e
-
-dest_bit_small : (d : Dest) → dest_bit d ≤ 1
-dest_bit_small W = lit≤ tt
-dest_bit_small F = lit≤ tt
 
 dest_of-dest_bit : (d : Dest) → dest_of (dest_bit d) ≡ d
 dest_of-dest_bit W = refl

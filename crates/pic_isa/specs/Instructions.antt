@@ -1,3 +1,4 @@
+-- The 35 instructions and their words (data sheet DS30292, section "Instruction Set Summary").
 use Rattle.std.specs.Prelude.{◌≡◌, ℕ, ◌<◌, ◌+◌, ◌-◌, ◌*◌, ◌/◌, ◌%◌, bit_and, ◌==◌, ◌&&◌, if◌then◌else◌, Option, Some, None}
 use Rattle.pic_isa.specs.declared.instructions.Dest.{Dest}
 use Rattle.pic_isa.specs.declared.instructions.Dest.TheVariants.{W, F}

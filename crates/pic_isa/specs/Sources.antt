@@ -1,8 +1,14 @@
-use Rattle.std.specs.Prelude.{ℕ, List, codes}
+-- The sources of interrupts: names, numbers, flags and enables.
+use Rattle.std.specs.Prelude.{ℕ, List, [], ◌∷◌, codes}
 use Rattle.pic_isa.specs.declared.sources.Source.{Source}
 use Rattle.pic_isa.specs.declared.sources.Source.TheVariants.{T0, Int, Psp, Ad, Ssp, Ccp1, Tmr2, Tmr1, Ee, Bcl, Ccp2}
 use Rattle.pic_isa.specs.declared.sources.BitAt.{BitAt}
 
+-- All sources, in the order of their numbers.
+abbrev pub sources : List Source
+sources = T0 ∷ Int ∷ Psp ∷ Ad ∷ Ssp ∷ Ccp1 ∷ Tmr2 ∷ Tmr1 ∷ Ee ∷ Bcl ∷ Ccp2 ∷ []
+
+-- A source's name, and its number.
 abbrev pub source_name : Source → List ℕ
 source_name T0 = codes "T0"
 source_name Int = codes "INT"

@@ -1,3 +1,5 @@
+// The instruction of a word.
+
 ghost use Rattle.std.specs.Prelude.{◌≡◌, ◌+◌, ◌*◌, ◌/◌, ◌%◌, ◌<◌, ◌≤◌, Some, IfSome, IfNone};
 ghost use Rattle.pic_isa.specs.declared.instructions.Instr.{Instr as Instrs};
 ghost use Rattle.pic_isa.specs.Instructions.{FieldsFit, IsWordOf, dest_of, instruction_of, row_of, word_of};

@@ -1,3 +1,5 @@
+// The 35 instructions.
+
 /// Where the result of an instruction on a register goes: to W, or back to the register.
 #[derive(Clone, Copy, Debug, PartialEq, Eq)]
 pub enum Dest {

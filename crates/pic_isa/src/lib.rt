@@ -6,9 +6,11 @@
 //! registers, the map's text and the compiler stand on this crate.
 #![tactic(auto)]
 
+pub mod bits;
 mod decoding;
 mod instructions;
 mod names;
+pub mod registers;
 mod sources;
 mod words;
 

@@ -1,3 +1,5 @@
+// Names of ports, and of registers that a setup may name.
+
 ghost use Rattle.std.specs.Prelude.{◌≡◌, ◌<◌};
 ghost use Rattle.pic_isa.specs.Names.{name_of_port, port_at, register_at};
 

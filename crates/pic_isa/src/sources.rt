@@ -1,6 +1,14 @@
+// The sources of interrupts: names, numbers, flags and enables.
+
 ghost use Rattle.std.specs.Prelude.{◌≡◌, ◌≢◌, IfSome, IfNone};
-ghost use Rattle.pic_isa.specs.declared.sources.Source.{Source as Sources};
+ghost use Rattle.pic_isa.specs.declared.sources.Source.{Source as AnySource};
 ghost use Rattle.pic_isa.specs.Sources.{source_name, source_number, flag_of, enable_of};
+
+use crate::bits::{
+    AD_BIT, BCL_BIT, CCP1_BIT, CCP2_BIT, EE_BIT, INTE, INTF, PSP_BIT, SSP_BIT, T0IE, T0IF,
+    TMR1_BIT, TMR2_BIT,
+};
+use crate::registers::{INTCON, PIE1, PIR1, PIR2};
 
 /// A source of interrupts, in the order of its number, which counts from 0.
 #[derive(Clone, Copy, Debug, PartialEq, Eq)]
@@ -26,6 +34,21 @@ pub struct BitAt {
 }
 
 impl Source {
+    /// All sources, in the order of their numbers.
+    pub const ALL: [Source; 11] = [
+        Source::T0,
+        Source::Int,
+        Source::Psp,
+        Source::Ad,
+        Source::Ssp,
+        Source::Ccp1,
+        Source::Tmr2,
+        Source::Tmr1,
+        Source::Ee,
+        Source::Bcl,
+        Source::Ccp2,
+    ];
+
     /// The source with this name.
     pub fn name(self) -> &'static str
         ensures { result.now ≡ source_name self }
@@ -57,46 +80,51 @@ impl Source {
         ensures { result ≡ flag_of self }
     {
         let (address, bit) = match self {
-            Source::T0 => (0x00B, 2),
-            Source::Int => (0x00B, 1),
-            Source::Psp => (0x00C, 7),
-            Source::Ad => (0x00C, 6),
-            Source::Ssp => (0x00C, 3),
-            Source::Ccp1 => (0x00C, 2),
-            Source::Tmr2 => (0x00C, 1),
-            Source::Tmr1 => (0x00C, 0),
-            Source::Ee => (0x00D, 4),
-            Source::Bcl => (0x00D, 3),
-            Source::Ccp2 => (0x00D, 0),
+            Source::T0 => (INTCON, T0IF),
+            Source::Int => (INTCON, INTF),
+            Source::Psp => (PIR1, PSP_BIT),
+            Source::Ad => (PIR1, AD_BIT),
+            Source::Ssp => (PIR1, SSP_BIT),
+            Source::Ccp1 => (PIR1, CCP1_BIT),
+            Source::Tmr2 => (PIR1, TMR2_BIT),
+            Source::Tmr1 => (PIR1, TMR1_BIT),
+            Source::Ee => (PIR2, EE_BIT),
+            Source::Bcl => (PIR2, BCL_BIT),
+            Source::Ccp2 => (PIR2, CCP2_BIT),
         };
-        BitAt { address, bit }
+        BitAt {
+            address: u16::from(address),
+            bit,
+        }
     }
 
-    /// The source's enable, in INTCON, PIE1 or PIE2.
+    /// The source's enable, in INTCON, PIE1 or PIE2. In PIE1 and PIE2 it is the bit that its flag is in PIR1 and
+    /// PIR2.
     pub fn enable(self) -> BitAt
         ensures { result ≡ enable_of self }
     {
-        let (address, bit) = match self {
-            Source::T0 => (0x00B, 5),
-            Source::Int => (0x00B, 4),
-            Source::Psp => (0x08C, 7),
-            Source::Ad => (0x08C, 6),
-            Source::Ssp => (0x08C, 3),
-            Source::Ccp1 => (0x08C, 2),
-            Source::Tmr2 => (0x08C, 1),
-            Source::Tmr1 => (0x08C, 0),
-            Source::Ee => (0x08D, 4),
-            Source::Bcl => (0x08D, 3),
-            Source::Ccp2 => (0x08D, 0),
-        };
-        BitAt { address, bit }
+        let flag = self.flag();
+        match self {
+            Source::T0 => BitAt {
+                address: u16::from(INTCON),
+                bit: T0IE,
+            },
+            Source::Int => BitAt {
+                address: u16::from(INTCON),
+                bit: INTE,
+            },
+            _ => BitAt {
+                address: flag.address + u16::from(PIE1 - PIR1),
+                bit: flag.bit,
+            },
+        }
     }
 }
 
 /// The source with this name, and None exactly where no source has it.
 pub fn source_named(name: &str) -> Option<Source>
     ensures found { IfSome result (λ source. name.now ≡ source_name source) }
-    ensures none { IfNone result ((source : Sources) → name.now ≢ source_name source) }
+    ensures none { IfNone result ((source : AnySource) → name.now ≢ source_name source) }
 {
     match name {
         "T0" => Some(Source::T0),

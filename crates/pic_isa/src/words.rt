@@ -1,3 +1,5 @@
+// The word of an instruction.
+
 ghost use Rattle.std.specs.Prelude.{◌≡◌, ◌+◌, ◌*◌, ◌<◌, ◌≤◌};
 ghost use Rattle.pic_isa.specs.Instructions.{FieldsFit, dest_bit, word_of};
 
