@@ -24,11 +24,17 @@ pub const RP1: u8 = 6;
 /// STATUS: the upper half of data memory, for INDF.
 pub const IRP: u8 = 7;
 
+/// INTCON: the flag of RB, which is no source here.
+pub const RBIF: u8 = 0;
+
 /// INTCON: the flag of INT.
 pub const INTF: u8 = 1;
 
 /// INTCON: the flag of T0.
 pub const T0IF: u8 = 2;
+
+/// INTCON: the enable of RB.
+pub const RBIE: u8 = 3;
 
 /// INTCON: the enable of INT.
 pub const INTE: u8 = 4;

@@ -56,16 +56,7 @@ bits-pir2 n =
 
 number_small : (source : Source) → source_number source < 16
 number_small T0 = lit< tt
-number_small Int = lit< tt
-number_small Psp = lit< tt
-number_small Ad = lit< tt
-number_small Ssp = lit< tt
-number_small Ccp1 = lit< tt
-number_small Tmr2 = lit< tt
-number_small Tmr1 = lit< tt
-number_small Ee = lit< tt
-number_small Bcl = lit< tt
-number_small Ccp2 = lit< tt
+number_small _ = lit< tt
 
 number_of-small : (set : Sources) → number_of set < 2048
 number_of-small set =

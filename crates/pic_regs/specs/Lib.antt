@@ -1,5 +1,6 @@
 pub mod Arrivals
 pub mod Bytes
+pub mod FlagBits
 pub mod Map
 pub mod Places
 pub mod Registers

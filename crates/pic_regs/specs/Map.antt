@@ -1,3 +1,4 @@
+-- The register map: what each data address means, and which bits exist (data sheet DS30292, "Register File Map").
 use Rattle.std.specs.Prelude.{ℕ, zero, suc, ◌+◌, ◌-◌, ◌/◌, ◌%◌, Bool, false, nat_le, ◌&&◌, ◌||◌, ◌==◌, if◌then◌else◌, Option, Some, None}
 use Rattle.pic_regs.specs.Bytes.{Byte}
 

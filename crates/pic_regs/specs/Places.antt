@@ -1,3 +1,4 @@
+-- Registers as the code names them.
 use Rattle.std.specs.Prelude.{◌<◌}
 use Rattle.pic_regs.specs.declared.places.Place.{Place}
 use Rattle.pic_regs.specs.declared.places.Place.TheVariants as place

@@ -1,3 +1,4 @@
+-- The registers: what they hold, what a read gives, what a write leaves, flags and requests.
 use Rattle.std.specs.Prelude.{ℕ, Bool, ◌&&◌, ◌||◌}
 use Rattle.pic_isa.specs.declared.sources.Source.{Source}
 use Rattle.pic_isa.specs.declared.sources.Source.TheVariants.{T0, Int, Psp, Ad, Ssp, Ccp1, Tmr2, Tmr1, Ee, Bcl, Ccp2}

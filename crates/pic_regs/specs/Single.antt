@@ -1,3 +1,4 @@
+-- The set of one source.
 use Rattle.std.specs.Prelude.{◌==◌}
 use Rattle.pic_isa.specs.declared.sources.Source.{Source}
 use Rattle.pic_isa.specs.Sources.{source_number}

@@ -1,3 +1,4 @@
+-- The registers at power-on (data sheet DS30292, "Reset").
 use Rattle.std.specs.Prelude.{◌≡◌, ℕ, ◌<◌, ◌+◌, ◌-◌, zero, suc, false, true, length, get_or, ◌||◌, ◌==◌, if◌then◌else◌, Option, Some, None}
 use Rattle.std.specs.List.{All}
 use Rattle.pic_regs.specs.declared.starts.Start.{Start}

@@ -1,3 +1,4 @@
+-- The definitions' registers that those of the code stand for.
 use Rattle.std.specs.Prelude.{ℕ, List, get_or}
 use Rattle.pic_regs.specs.declared.state.Regs.{Regs}
 use Rattle.pic_regs.specs.Bytes.{Byte, bits}

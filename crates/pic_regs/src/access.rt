@@ -1,3 +1,5 @@
+// Reads and writes of registers.
+
 ghost use Rattle.std.specs.Prelude.{◌≡◌, ◌<◌};
 ghost use Rattle.pic_regs.specs.Bytes.{bits, num};
 ghost use Rattle.pic_regs.specs.Map.{Port, Tris, Plain, reg_at};
@@ -75,7 +77,7 @@ impl Regs {
         self.read_place(place_at(address))
     }
 
-    fn write_latch(&mut self, port: u8, byte: u8)
+    fn write_port_latch(&mut self, port: u8, byte: u8)
         requires { port < 5 }
         ensures { registers_of self.new ≡ write (Port port) (bits byte) (registers_of self.old) }
     {
@@ -114,7 +116,7 @@ impl Regs {
             Place::Pir2 => self.pir2 = written_byte(place, self.pir2, byte),
             Place::Pie1 => self.pie1 = byte,
             Place::Pie2 => self.pie2 = byte,
-            Place::Port(port) => self.write_latch(port, byte),
+            Place::Port(port) => self.write_port_latch(port, byte),
             Place::Tris(port) => self.write_tris(port, byte),
             Place::Plain(address) => self.write_plain(address, byte),
         }

@@ -1,3 +1,5 @@
+// Arrivals: which are latched and which merged.
+
 ghost use Rattle.std.specs.Prelude.{◌≡◌, ◌<◌, ◌≤◌};
 ghost use Rattle.pic_regs.specs.Arrivals.{arrived, latched, merged, number_of, set_of};
 ghost use Rattle.pic_regs.specs.Bytes.{bits, one_if, zeros};

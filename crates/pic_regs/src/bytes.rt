@@ -1,3 +1,5 @@
+// Operations on bytes, bit by bit.
+
 ghost use Rattle.std.specs.Prelude.{◌≡◌, ◌<◌, ◌&&◌, ◌||◌, not, if◌then◌else◌};
 ghost use Rattle.pic_regs.specs.Bytes.{bit, bit_by_bit, bits, chosen, is_zero, share_a_bit, swapped, with_bit};
 

@@ -1,5 +1,9 @@
-ghost use Rattle.std.specs.Prelude.{◌≡◌, if◌then◌else◌};
+// Flags of sources, and requests.
+
+ghost use Rattle.std.specs.Prelude.{◌≡◌, ◌<◌, if◌then◌else◌};
 ghost use Rattle.pic_regs.specs.Arrivals.{arrived};
+ghost use Rattle.pic_regs.specs.Bytes.{bits};
+ghost use Rattle.pic_regs.specs.FlagBits.{flags_at, with_flag_at};
 ghost use Rattle.pic_regs.specs.Registers.{flag, requested};
 ghost use Rattle.pic_regs.specs.Single.{only};
 ghost use Rattle.pic_regs.specs.State.{registers_of};
@@ -9,44 +13,50 @@ use crate::latches::Latch;
 use crate::masks::existing_byte;
 use crate::places::Place;
 use crate::state::Regs;
-use pic_isa::Source;
+use pic_isa::bits::{GIE, INTE, INTF, PEIE, RBIE, RBIF, T0IE, T0IF};
+use pic_isa::registers::{INTCON, PIR1};
+use pic_isa::{BitAt, Source};
 
 impl Regs {
+    // The register at an address that has flags: INTCON, PIR1, or else PIR2.
+    fn flags_at(&self, address: u16) -> u8
+        ensures { bits result ≡ flags_at address (registers_of self.now) }
+    {
+        if address == u16::from(INTCON) {
+            self.intcon
+        } else if address == u16::from(PIR1) {
+            self.pir1
+        } else {
+            self.pir2
+        }
+    }
+
     /// A source's interrupt flag.
     pub fn flag(&self, source: Source) -> bool
         ensures { result ≡ flag source (registers_of self.now) }
     {
-        match source {
-            Source::T0 => bit_is_set(self.intcon, 2),
-            Source::Int => bit_is_set(self.intcon, 1),
-            Source::Psp => bit_is_set(self.pir1, 7),
-            Source::Ad => bit_is_set(self.pir1, 6),
-            Source::Ssp => bit_is_set(self.pir1, 3),
-            Source::Ccp1 => bit_is_set(self.pir1, 2),
-            Source::Tmr2 => bit_is_set(self.pir1, 1),
-            Source::Tmr1 => bit_is_set(self.pir1, 0),
-            Source::Ee => bit_is_set(self.pir2, 4),
-            Source::Bcl => bit_is_set(self.pir2, 3),
-            Source::Ccp2 => bit_is_set(self.pir2, 0),
+        let at = source.flag();
+        bit_is_set(self.flags_at(at.address), at.bit)
+    }
+
+    // Sets a bit, 0 to 7, of the register at an address that has flags.
+    fn set_flag_at(&mut self, at: BitAt)
+        requires { at.bit < 8 }
+        ensures { registers_of self.new ≡ with_flag_at at (registers_of self.old) }
+    {
+        if at.address == u16::from(INTCON) {
+            self.intcon = set_bit(self.intcon, at.bit, true);
+        } else if at.address == u16::from(PIR1) {
+            self.pir1 = set_bit(self.pir1, at.bit, true);
+        } else {
+            self.pir2 = set_bit(self.pir2, at.bit, true);
         }
     }
 
     fn raise(&mut self, source: Source)
         ensures { registers_of self.new ≡ arrived (only source) (registers_of self.old) }
     {
-        match source {
-            Source::T0 => self.intcon = set_bit(self.intcon, 2, true),
-            Source::Int => self.intcon = set_bit(self.intcon, 1, true),
-            Source::Psp => self.pir1 = set_bit(self.pir1, 7, true),
-            Source::Ad => self.pir1 = set_bit(self.pir1, 6, true),
-            Source::Ssp => self.pir1 = set_bit(self.pir1, 3, true),
-            Source::Ccp1 => self.pir1 = set_bit(self.pir1, 2, true),
-            Source::Tmr2 => self.pir1 = set_bit(self.pir1, 1, true),
-            Source::Tmr1 => self.pir1 = set_bit(self.pir1, 0, true),
-            Source::Ee => self.pir2 = set_bit(self.pir2, 4, true),
-            Source::Bcl => self.pir2 = set_bit(self.pir2, 3, true),
-            Source::Ccp2 => self.pir2 = set_bit(self.pir2, 0, true),
-        }
+        self.set_flag_at(source.flag());
     }
 
     /// Sets a source's flag, enabled or not, and says whether its arrival was latched or merged.
@@ -71,11 +81,11 @@ impl Regs {
         let intcon = self.intcon;
         let pir1 = existing_byte(Place::Pir1, self.pir1);
         let pir2 = existing_byte(Place::Pir2, self.pir2);
-        bit_is_set(intcon, 7)
-            && (bit_is_set(intcon, 5) && bit_is_set(intcon, 2)
-                || bit_is_set(intcon, 4) && bit_is_set(intcon, 1)
-                || bit_is_set(intcon, 3) && bit_is_set(intcon, 0)
-                || bit_is_set(intcon, 6)
+        bit_is_set(intcon, GIE)
+            && (bit_is_set(intcon, T0IE) && bit_is_set(intcon, T0IF)
+                || bit_is_set(intcon, INTE) && bit_is_set(intcon, INTF)
+                || bit_is_set(intcon, RBIE) && bit_is_set(intcon, RBIF)
+                || bit_is_set(intcon, PEIE)
                     && (have_a_bit_in_common(self.pie1, pir1)
                         || have_a_bit_in_common(self.pie2, pir2)))
     }

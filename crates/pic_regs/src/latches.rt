@@ -1,3 +1,5 @@
+// What an arrival does.
+
 /// What an arrival does: it is latched where its flag was clear, and merged with an earlier one where the
 /// flag was set.
 #[derive(Clone, Copy, Debug, PartialEq, Eq)]

@@ -8,11 +8,11 @@
 mod access;
 mod arriving;
 pub mod bytes;
+mod control_bits;
 mod flags;
 mod latches;
 mod map;
 mod masks;
-mod named;
 mod places;
 mod power;
 mod starts;

@@ -1,3 +1,5 @@
+// What a data address means.
+
 ghost use Rattle.std.specs.Prelude.{◌≡◌, ◌/◌, ◌%◌, ◌<◌};
 ghost use Rattle.pic_regs.specs.Map.{in_bank, in_bank_0, in_bank_1, in_bank_2, in_bank_3, lowest, reg_at, reg_in};
 ghost use Rattle.pic_regs.specs.Map.{canonical as lowest_at};

@@ -1,3 +1,5 @@
+// Which bits of a register exist, and which a write changes.
+
 ghost use Rattle.std.specs.Prelude.{◌≡◌, ◌<◌};
 ghost use Rattle.pic_regs.specs.Bytes.{Byte, bits, chosen, zeros};
 ghost use Rattle.pic_regs.specs.Map.{existing, over, over_port, over_tris, port_bits, tris_bits};

@@ -1,3 +1,5 @@
+// Registers as the code names them.
+
 /// What an address of data memory means: nothing, a register that the chip treats in its own way, a port
 /// or its TRIS by the port's number (0 for A to 4 for E), or a plain byte by its lowest address, below
 /// 512.

@@ -1,3 +1,5 @@
+// The registers at power-on.
+
 ghost use Rattle.std.specs.Prelude.{◌≡◌, ◌<◌, IfSome};
 ghost use Rattle.pic_regs.specs.Bytes.{bits};
 ghost use Rattle.pic_regs.specs.Start.{plain_start, registers_on, special_start};

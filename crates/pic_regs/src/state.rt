@@ -1,3 +1,5 @@
+// The registers as the code holds them.
+
 /// The registers of the chip: those that control depends on, the latch, TRIS and pins of each port, 0 for
 /// PORTA to 4 for PORTE, and all other bytes by their lowest address.
 #[derive(Drop)]

@@ -1,3 +1,5 @@
+// The bits of registers that control depends on: flags, banks, the page and GIE.
+
 ghost use Rattle.std.specs.Prelude.{◌≡◌, ◌+◌, ◌*◌, ◌<◌, ◌≤◌, true};
 ghost use Rattle.pic_regs.specs.Bytes.{bits, num, one_if};
 ghost use Rattle.pic_regs.specs.Map.{Intcon, Status};
@@ -6,6 +8,7 @@ ghost use Rattle.pic_regs.specs.State.{registers_of};
 
 use crate::bytes::{bit_is_set, set_bit};
 use crate::state::Regs;
+use pic_isa::bits::{CARRY, DIGIT_CARRY, GIE, PD, TO, ZERO};
 
 impl Regs {
     /// STATUS: IRP, RP1, RP0, TO, PD, Z, DC and C from bit 7 down.
@@ -42,21 +45,21 @@ impl Regs {
     pub fn carry(&self) -> bool
         ensures { result ≡ (registers_of self.now).status.b0 }
     {
-        bit_is_set(self.status, 0)
+        bit_is_set(self.status, CARRY)
     }
 
     /// Makes Z what is given.
     pub fn set_zero(&mut self, zero: bool)
         ensures { registers_of self.new ≡ changed Status (λ status. record status { b2 = zero }) (registers_of self.old) }
     {
-        self.status = set_bit(self.status, 2, zero);
+        self.status = set_bit(self.status, ZERO, zero);
     }
 
     /// Makes C what is given.
     pub fn set_carry(&mut self, carry: bool)
         ensures { registers_of self.new ≡ changed Status (λ status. record status { b0 = carry }) (registers_of self.old) }
     {
-        self.status = set_bit(self.status, 0, carry);
+        self.status = set_bit(self.status, CARRY, carry);
     }
 
     /// Makes C, DC and Z what is given.
@@ -64,9 +67,9 @@ impl Regs {
         ensures { registers_of self.new
             ≡ changed Status (λ status. record status { b2 = zero; b1 = digit_carry; b0 = carry }) (registers_of self.old) }
     {
-        let with_carry = set_bit(self.status, 0, carry);
-        let with_both = set_bit(with_carry, 1, digit_carry);
-        self.status = set_bit(with_both, 2, zero);
+        let with_carry = set_bit(self.status, CARRY, carry);
+        let with_both = set_bit(with_carry, DIGIT_CARRY, digit_carry);
+        self.status = set_bit(with_both, ZERO, zero);
     }
 
     /// Sets TO and PD.
@@ -74,8 +77,8 @@ impl Regs {
         ensures { registers_of self.new
             ≡ changed Status (λ status. record status { b4 = true; b3 = true }) (registers_of self.old) }
     {
-        let awake = set_bit(self.status, 4, true);
-        self.status = set_bit(awake, 3, true);
+        let awake = set_bit(self.status, TO, true);
+        self.status = set_bit(awake, PD, true);
     }
 
     /// The first address of the page of program memory that bits 4 and 3 of PCLATH choose, a multiple of
@@ -92,6 +95,6 @@ impl Regs {
     pub fn set_gie(&mut self, gie: bool)
         ensures { registers_of self.new ≡ changed Intcon (λ intcon. record intcon { b7 = gie }) (registers_of self.old) }
     {
-        self.intcon = set_bit(self.intcon, 7, gie);
+        self.intcon = set_bit(self.intcon, GIE, gie);
     }
 }

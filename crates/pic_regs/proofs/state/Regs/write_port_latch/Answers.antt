@@ -3,7 +3,7 @@ use Rattle.pic_regs.specs.Bytes.{bits}
 use Rattle.pic_regs.specs.Map.{over_port}
 use Rattle.pic_regs.specs.State.{memory_of}
 use Rattle.pic_regs.proofs.MemoryFacts.{latch-set}
-use Rattle.pic_regs.proofs.state.Regs.write_latch.Goals as goal
+use Rattle.pic_regs.proofs.state.Regs.write_port_latch.Goals as goal
 
 pub returns : goal.returns
 returns c =
