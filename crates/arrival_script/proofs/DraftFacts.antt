@@ -9,8 +9,8 @@ use Rattle.std.proofs.lemmas.List.{map-append, length-map}
 use Rattle.std.proofs.lemmas.List.Sums.{prefix_len_passes}
 use Rattle.std.proofs.lemmas.List.Elements.{All-push}
 use Rattle.std.proofs.lemmas.Option.{slice_get-map, slice_get_cases}
-use Rattle.frp_tree.specs.Fronts.{begins}
-use Rattle.frp_tree.specs.Tokens.{value_after}
+use Rattle.text_parts.specs.Bytes.{begins}
+use Rattle.text_parts.specs.Numbers.{value_after}
 use Rattle.arrival_script.specs.declared.scripts.Arrival.{Arrival}
 use Rattle.arrival_script.specs.declared.scripts.Cause.{Cause}
 use Rattle.arrival_script.specs.declared.scripts.Cause.TheVariants.{BadLine, NotRising, NoSteps, PastEnd}

@@ -5,7 +5,7 @@ use Rattle.std.specs.Str.Lines.{lines, lines_of_parts, strip_carriage_return}
 use Rattle.std.proofs.lemmas.Grind.{common_steps}
 use Rattle.std.proofs.Math.Numerals.{one-add}
 use Rattle.std.proofs.lemmas.Bool.{ne_eqb}
-use Rattle.frp_tree.specs.Fronts.{begins}
+use Rattle.text_parts.specs.Bytes.{begins}
 use Rattle.arrival_script.specs.Scripts.{fields_of}
 
 -- The parts behind the first one, of what the first one is followed by.

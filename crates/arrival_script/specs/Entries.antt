@@ -1,7 +1,7 @@
 use Rattle.std.specs.Prelude.{◌≡◌, ℕ, ◌<◌, ◌≤◌, true, false, not, if◌then◌else◌, List, length, Option, Some, None, Result, Ok, Err}
 use Rattle.std.specs.List.{list_all, list_any}
 use Rattle.std.specs.Str.{bytes_eq}
-use Rattle.frp_tree.specs.Tokens.{value_after}
+use Rattle.text_parts.specs.Numbers.{value_after}
 use Rattle.pic_isa.specs.Sources.{source_name}
 use Rattle.pic_regs.specs.Arrivals.{number_of}
 use Rattle.arrival_script.specs.declared.scripts.Cause.{Cause}

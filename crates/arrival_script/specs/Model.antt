@@ -1,7 +1,7 @@
 use Rattle.std.specs.Prelude.{ℕ, not, List, [], ◌∷◌, ◌++◌, map, filter, Option, Some, option_map, option_and_then, codes}
 use Rattle.std.specs.List.{flat_map, zip}
 use Rattle.std.specs.Fmt.{decimal}
-use Rattle.frp_tree.specs.Digits.{hex2}
+use Rattle.text_parts.specs.Digits.{hex2}
 use Rattle.frp_tree.specs.Tree.{ProgramTree}
 use Rattle.efrp_meaning.specs.Needs.{is_plain}
 use Rattle.efrp_meaning.specs.Meaning.{State, Reaction, react, initial_state}

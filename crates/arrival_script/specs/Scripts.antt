@@ -3,9 +3,8 @@ use Rattle.std.specs.List.{All, find, list_all, list_any, slice_split}
 use Rattle.std.specs.List.Sorted.{IsStrictlyIncreasing}
 use Rattle.std.specs.Str.{bytes_eq}
 use Rattle.std.specs.Str.Lines.{lines}
-use Rattle.frp_tree.specs.Names.{is_between, is_digit}
-use Rattle.frp_tree.specs.Tokens.{is_hex_digit, value_after}
-use Rattle.frp_tree.specs.Fronts.{begins}
+use Rattle.text_parts.specs.Bytes.{is_between, is_digit, is_hex_digit, begins}
+use Rattle.text_parts.specs.Numbers.{value_after}
 use Rattle.pic_isa.specs.declared.sources.Source.{Source}
 use Rattle.pic_isa.specs.declared.sources.Source.TheVariants.{T0, Int, Psp, Ad, Ssp, Ccp1, Tmr2, Tmr1, Ee, Bcl, Ccp2}
 use Rattle.pic_isa.specs.Sources.{source_name}

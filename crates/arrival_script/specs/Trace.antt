@@ -1,7 +1,7 @@
 use Rattle.std.specs.Prelude.{◌≡◌, ℕ, zero, suc, ◌+◌, ◌<◌, true, false, ◌==◌, max, if◌then◌else◌, List, [], ◌∷◌, ◌++◌, map, Option, Some, None, Result, Ok, Err, codes, ◌⊎◌}
 use Rattle.std.specs.List.{flat_map, range_with_len, repeat}
 use Rattle.std.specs.Fmt.{decimal}
-use Rattle.frp_tree.specs.Digits.{hex2}
+use Rattle.text_parts.specs.Digits.{hex2}
 use Rattle.edge_io.specs.Sinks.{Appends, AppendsPrefix}
 use Rattle.pic_isa.specs.declared.sources.Source.{Source}
 use Rattle.pic_isa.specs.Sources.{source_name}

@@ -1,6 +1,6 @@
 ghost use Rattle.std.specs.Prelude.{◌≡◌, ◌+◌, ◌<◌, ◌^◌, List as Items, [], ◌==◌, nat_lt};
 ghost use Rattle.std.specs.List.{prefix_len};
-ghost use Rattle.frp_tree.specs.Fronts.{begins};
+ghost use Rattle.text_parts.specs.Bytes.{begins};
 ghost use Rattle.arrival_script.specs.Scripts.{Line as Lines, fields_of};
 ghost use Rattle.arrival_script.specs.Drafts.{
   IsDraftOf,

@@ -1,8 +1,8 @@
 ghost use Rattle.std.specs.Prelude.{◌≡◌, ◌<◌, ◌≤◌, ◌^◌, ◌∷◌, [], false, true, length, MatchOption, IsTrue, codes, ◌||◌, ◌*◌};
 ghost use Rattle.std.specs.List.{list_all, list_any};
 ghost use Rattle.std.specs.Str.{bytes_eq};
-ghost use Rattle.frp_tree.specs.Names.{is_digit};
-ghost use Rattle.frp_tree.specs.Tokens.{is_hex_digit, digit_value, value_after};
+ghost use Rattle.text_parts.specs.Bytes.{is_digit, is_hex_digit};
+ghost use Rattle.text_parts.specs.Numbers.{digit_value, value_after};
 ghost use Rattle.pic_isa.specs.Sources.{source_name, source_number};
 ghost use Rattle.pic_regs.specs.Arrivals.{number_of, set_of};
 ghost use Rattle.arrival_script.specs.Scripts.{fields_of, is_byte, is_number, is_source, has_twice};

@@ -1,7 +1,7 @@
 ghost use Rattle.std.specs.Prelude.{◌≡◌, ◌<◌, ◌≤◌, ◌∷◌, [], ◌==◌, length, take, drop, MatchOption, false};
 ghost use Rattle.std.specs.List.{position_or_len};
 ghost use Rattle.std.specs.Str.Lines.{lines, strip_carriage_return};
-ghost use Rattle.frp_tree.specs.Fronts.{begins};
+ghost use Rattle.text_parts.specs.Bytes.{begins};
 ghost use Rattle.arrival_script.specs.Scripts.{fields_of};
 
 // The place of the first byte of this kind, or the length.

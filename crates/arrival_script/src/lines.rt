@@ -122,7 +122,7 @@ fn name_of(port: u8) -> &'static str
     port_name(port.min(4))
 }
 
-#[tactic(auto, using(frp_tree::proofs::DigitLaws::hex2_written))]
+#[tactic(auto, using(text_parts::proofs::DigitLaws::hex2_written))]
 fn write_port(text: &mut String, step: u32, port: Option<PortWrite>) -> Result<(), AllocError>
     ensures { OnOk result (string_bytes text.new ≡ string_bytes text.old ++ port_line step port) }
 {

@@ -1,7 +1,8 @@
 -- Programs of the first form: the tree and the tokens that a `Counter` stands for.
 use Rattle.std.specs.Prelude.{◌≡◌, ◌≢◌, ℕ, ◌<◌, false, List, [], ◌∷◌, ◌++◌, Option, Some, None, IfSome, IsTrue, codes}
 use Rattle.frp_tree.specs.Priorities.{IsPriority}
-use Rattle.frp_tree.specs.Names.{is_name, is_keyword}
+use Rattle.text_parts.specs.Names.{is_name}
+use Rattle.frp_tree.specs.Names.{is_keyword}
 use Rattle.frp_tree.specs.declared.syntax.Ty.TheVariants.{U8}
 use Rattle.frp_tree.specs.declared.syntax.Lit.TheVariants as lit
 use Rattle.frp_tree.specs.declared.syntax.BinOp.TheVariants.{Add}

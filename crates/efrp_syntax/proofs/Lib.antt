@@ -4,4 +4,3 @@ pub mod MarkFrontFacts
 pub mod NumberFrontFacts
 pub mod RunFacts
 pub mod TokenFrontFacts
-pub mod ValueFacts

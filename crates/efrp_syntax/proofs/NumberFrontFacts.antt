@@ -1,10 +1,8 @@
 use Rattle.std.proofs.Common.{◌≡◌, ◌≢◌, ℕ, Bool, true, false, List, [], ◌∷◌, ◌++◌, Option, inl, inr, refl, sym, ap, ◌∙◌}
 use Rattle.std.specs.List.{list_all}
 use Rattle.std.proofs.lemmas.Bool.{false≢true, and_parts}
-use Rattle.frp_tree.specs.Names.{is_digit}
-use Rattle.frp_tree.specs.Tokens.{is_hex_digit, value_after}
-use Rattle.frp_tree.specs.Fronts.{begins}
-use Rattle.frp_tree.proofs.LexemeLaws.{weaker, digit_hex}
+use Rattle.text_parts.specs.Bytes.{is_digit, is_hex_digit, begins}
+use Rattle.text_parts.specs.Numbers.{value_after}
 use Rattle.frp_tree.proofs.LongestLaws.{decimal_longest, hexadecimal_longest}
 use Rattle.efrp_syntax.specs.Pieces.{IsRun, IsNumberFront, fitting}
 
@@ -36,7 +34,3 @@ decimal_front text front rest value b none r t = record {
   longest = decimal_longest front rest r.ends (λ ds other some all e. false≢true (sym (none (ds ++ other) (r.spelled ∙ e)) ∙ begins_all is_hex_digit ds other some all));
   told = t;
 }
-
--- Decimal digits are hexadecimal ones.
-pub digits_hex : (ds : List ℕ) → list_all is_digit ds ≡ true → list_all is_hex_digit ds ≡ true
-digits_hex ds h = weaker is_digit is_hex_digit ds digit_hex h

@@ -4,9 +4,10 @@ use Rattle.std.specs.Str.{IsAscii}
 use Rattle.std.proofs.lemmas.Bool.{false≢true, and_parts, and_from, and_right, or_left, or_right, cases_eq, eqb-false, not-true, not-false, eqb-true, leb-true, leb-false, cond_both, ne_eqb}
 use Rattle.std.proofs.lemmas.Bool.Decides.{nat_tests}
 use Rattle.std.proofs.lemmas.List.{append_assoc}
-use Rattle.frp_tree.specs.Names.{is_digit, is_letter}
-use Rattle.frp_tree.specs.Tokens.{IsNumber, IsLexeme, starts_word, starts_comment, AtLineEnd}
-use Rattle.frp_tree.specs.Fronts.{begins, Skips, IsFront}
+use Rattle.text_parts.specs.Bytes.{is_digit, is_letter, begins}
+use Rattle.text_parts.specs.Numbers.{IsNumber}
+use Rattle.frp_tree.specs.Tokens.{IsLexeme, starts_word, starts_comment, AtLineEnd}
+use Rattle.frp_tree.specs.Fronts.{Skips, IsFront}
 use Rattle.frp_tree.specs.declared.tokens.Token.{Token}
 use Rattle.frp_tree.specs.declared.tokens.Token.TheVariants as token
 use Rattle.frp_tree.proofs.LexemeLaws.{is_word_byte, word_from, lexeme_begins, lexeme_some}

@@ -1,9 +1,10 @@
 use Rattle.std.specs.Prelude.{◌≡◌, ◌≢◌, ℕ, Bool, true, false, not, ◌&&◌, ◌||◌, ◌==◌, nat_le, if◌then◌else◌, List, [], ◌∷◌, ◌++◌, Option, Some, None, Result, Ok, Err, slice_get}
 use Rattle.std.specs.List.{list_all}
 use Rattle.std.specs.Borrow.{Bor}
-use Rattle.frp_tree.specs.Names.{is_digit, is_letter}
-use Rattle.frp_tree.specs.Tokens.{marks, is_blank, is_hex_digit, IsNumber, IsLexeme, IsLongest, IsWithin, starts_word, starts_comment}
-use Rattle.frp_tree.specs.Fronts.{begins, Skips, IsFront, IsLongestNumber}
+use Rattle.text_parts.specs.Bytes.{is_digit, is_letter, is_hex_digit, begins}
+use Rattle.text_parts.specs.Numbers.{IsNumber}
+use Rattle.frp_tree.specs.Tokens.{marks, is_blank, IsLexeme, IsLongest, IsWithin, starts_word, starts_comment}
+use Rattle.frp_tree.specs.Fronts.{Skips, IsFront, IsLongestNumber}
 use Rattle.frp_tree.specs.declared.tokens.Token.{Token}
 use Rattle.efrp_syntax.specs.declared.classes.Class.{Class}
 use Rattle.efrp_syntax.specs.declared.classes.Class.TheVariants.{Word, Digit, HexDigit, Line}

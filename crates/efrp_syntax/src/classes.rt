@@ -1,8 +1,10 @@
 ghost use Rattle.std.specs.Prelude.{◌≡◌};
 ghost use Rattle.std.specs.List.{prefix_len};
 ghost use Rattle.frp_tree.specs.Tokens.{is_blank};
-ghost use Rattle.frp_tree.specs.Fronts.{begins};
+ghost use Rattle.text_parts.specs.Bytes.{begins};
 ghost use Rattle.efrp_syntax.specs.Pieces.{is_in, IsRun};
+
+use text_parts::is_word_byte;
 
 /// Classes of bytes.
 #[derive(Clone, Copy, Debug, PartialEq, Eq)]
@@ -20,7 +22,7 @@ impl Class {
         ensures { result ≡ is_in self byte }
     {
         match self {
-            Class::Word => byte.is_ascii_alphanumeric() || byte == b'_',
+            Class::Word => is_word_byte(byte),
             Class::Digit => byte.is_ascii_digit(),
             Class::HexDigit => byte.is_ascii_hexdigit(),
             Class::Line => byte != b'\n',

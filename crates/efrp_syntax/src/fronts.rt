@@ -1,8 +1,7 @@
 ghost use Rattle.std.specs.Prelude.{◌≡◌, false, IsTrue, IfOk, IfErr};
 ghost use Rattle.std.specs.List.{list_all};
-ghost use Rattle.frp_tree.specs.Names.{is_digit, is_letter};
+ghost use Rattle.text_parts.specs.Bytes.{is_digit, is_letter, begins};
 ghost use Rattle.frp_tree.specs.Tokens.{starts_comment};
-ghost use Rattle.frp_tree.specs.Fronts.{begins};
 ghost use Rattle.efrp_syntax.specs.Lexed.{OnlyMemory};
 ghost use Rattle.efrp_syntax.specs.Pieces.{is_in, Skipped, Taken};
 ghost use Rattle.efrp_syntax.specs.declared.classes.Class.TheVariants.{Word, Digit};
@@ -14,9 +13,7 @@ use crate::numbers::{behind_suffix, number};
 use frp_tree::{Text, Token};
 use std::alloc::Global;
 use std::str;
-
-/// The greatest length of a name, in bytes.
-const LONGEST_NAME: usize = 31;
+use text_parts::LONGEST_NAME;
 
 /// What follows the blank or the comment at the front of a text.
 pub fn skipped(text: &[u8]) -> Option<&[u8]>

@@ -1,36 +1,19 @@
 ghost use Rattle.std.specs.Prelude.{◌≡◌, ◌<◌, ℕ, List, ◌∷◌, ◌==◌, MatchOption, IsTrue, false};
 ghost use Rattle.std.specs.List.{list_all};
-ghost use Rattle.frp_tree.specs.Names.{is_digit};
-ghost use Rattle.frp_tree.specs.Tokens.{is_hex_digit, digit_value, value_after};
-ghost use Rattle.frp_tree.specs.Fronts.{begins};
+ghost use Rattle.text_parts.specs.Bytes.{is_digit, is_hex_digit, begins};
+ghost use Rattle.text_parts.specs.Numbers.{value_after};
 ghost use Rattle.efrp_syntax.specs.Pieces.{fitting, IsNumberFront};
 
 use crate::classes::Class;
-
-/// What a digit of either case stands for.
-fn digit_value(byte: u8) -> u16
-    requires { IsTrue (is_hex_digit byte) }
-    ensures { result ≡ digit_value byte }
-{
-    let value = match byte {
-        b'0'..=b'9' => byte - b'0',
-        b'A'..=b'F' => byte - b'A' + 10,
-        _ => byte - b'a' + 10,
-    };
-    u16::from(value)
-}
+use text_parts::number_of;
 
 /// The number that digits spell in a base, and None exactly where it is above 65,535.
-fn value(base: u16, digits: &[u8]) -> Option<u16>
+fn value(base: u32, digits: &[u8]) -> Option<u16>
     requires base { 0 < base }
     requires digits { IsTrue (list_all is_hex_digit digits.now) }
     ensures { result ≡ fitting (value_after base 0 digits.now) }
 {
-    let mut value: u16 = 0;
-    for digit in digits {
-        value = value.checked_mul(base)?.checked_add(digit_value(*digit))?;
-    }
-    Some(value)
+    u16::try_from(number_of(base, digits)?).ok()
 }
 
 /// What follows `0x`, where the text begins with that and a hexadecimal digit.

@@ -5,7 +5,7 @@ use Rattle.std.specs.List.{AllByRecursion}
 use Rattle.std.proofs.lemmas.Bool.{le-leb}
 use Rattle.frp_tree.specs.declared.tokens.Token.{Token}
 use Rattle.frp_tree.specs.declared.tokens.Token.TheVariants.{Word, Num, Wide, Mark}
-use Rattle.frp_tree.specs.Names.{is_name, has_form_of_name}
+use Rattle.text_parts.specs.Names.{is_name, has_form_of_name}
 use Rattle.frp_tree.specs.Tokens.{Cuts, here, blank, comment, lexeme, IsLexeme, IsWithin, HasTokens}
 use Rattle.counter_code.specs.declared.counters.Counter.{Counter}
 use Rattle.counter_code.specs.Counters.{IsCounter, Spells, tokens_of}

@@ -1,8 +1,8 @@
 use Rattle.std.specs.Prelude.{ℕ, ◌^◌, Bool, false, ◌&&◌, not, ◌==◌, nat_le, nat_lt, List, [], ◌∷◌, length, Option, Some, None, codes, if◌then◌else◌}
 use Rattle.std.specs.List.{list_all}
 use Rattle.std.specs.Str.{bytes_eq}
-use Rattle.frp_tree.specs.Names.{is_digit}
-use Rattle.frp_tree.specs.Tokens.{value_after}
+use Rattle.text_parts.specs.Bytes.{is_digit}
+use Rattle.text_parts.specs.Numbers.{value_after}
 use Rattle.frp_tool.specs.declared.commands.Command.{Command}
 use Rattle.frp_tool.specs.declared.commands.Command.TheVariants.{Check, Compile, Run, Model, Big}
 

@@ -1,6 +1,7 @@
 use Rattle.std.specs.Prelude.{◌≡◌, ℕ, false, List, Option, Some, None, IsTrue}
 use Rattle.efrp_meaning.specs.Causal.{IsPriority}
-use Rattle.frp_tree.specs.Names.{is_keyword, is_name}
+use Rattle.text_parts.specs.Names.{is_name}
+use Rattle.frp_tree.specs.Names.{is_keyword}
 use Rattle.frp_tree.specs.declared.tokens.Token.{Token}
 use Rattle.frp_tree.specs.declared.tokens.Token.TheVariants.{Word, Num, Wide, Mark}
 use Rattle.counter_code.specs.declared.counters.SetupAt.{SetupAt}

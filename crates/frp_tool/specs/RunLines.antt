@@ -1,6 +1,6 @@
 use Rattle.std.specs.Prelude.{ℕ, List, [], ◌++◌, codes}
 use Rattle.std.specs.Fmt.{decimal}
-use Rattle.frp_tree.specs.Digits.{hex2, hex4}
+use Rattle.text_parts.specs.Digits.{hex2, hex4}
 use Rattle.pic_machine.specs.declared.steps.Why.{Why}
 use Rattle.pic_machine.specs.declared.steps.Why.TheVariants as why
 use Rattle.hex_file.specs.declared.faults.HexFault.{HexFault}

@@ -1,6 +1,6 @@
 ghost use Rattle.std.specs.Prelude.{◌≡◌, false, true, [], ◌∷◌, MatchOption};
 ghost use Rattle.std.specs.Str.{bytes_eq};
-ghost use Rattle.frp_tree.specs.Tokens.{value_after};
+ghost use Rattle.text_parts.specs.Numbers.{value_after};
 ghost use Rattle.frp_tool.specs.Commands.{command_of, differ, is_operand, is_seed};
 
 use frp_tree::Text;

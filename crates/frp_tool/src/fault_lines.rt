@@ -21,21 +21,21 @@ fn hex_line_at(alloc: Global, line: u32, rest: &str) -> Result<String, AllocErro
     format!(in alloc; "refused: hex {line}{rest}")
 }
 
-#[tactic(auto, using(frp_tree::proofs::DigitLaws::hex2_written))]
+#[tactic(auto, using(text_parts::proofs::DigitLaws::hex2_written))]
 fn sum_line(alloc: Global, line: u32, got: u8, want: u8) -> Result<String, AllocError>
     ensures { IfOk result (λ text. string_bytes text ≡ hex_line (HexFault.BadSum line got want)) }
 {
     format!(in alloc; "refused: hex {line} sum {got:02X} {want:02X}\n")
 }
 
-#[tactic(auto, using(frp_tree::proofs::DigitLaws::hex2_written))]
+#[tactic(auto, using(text_parts::proofs::DigitLaws::hex2_written))]
 fn type_line(alloc: Global, line: u32, kind: u8) -> Result<String, AllocError>
     ensures { IfOk result (λ text. string_bytes text ≡ hex_line (HexFault.BadType line kind)) }
 {
     format!(in alloc; "refused: hex {line} type {kind:02X}\n")
 }
 
-#[tactic(auto, using(frp_tree::proofs::DigitLaws::hex4_written))]
+#[tactic(auto, using(text_parts::proofs::DigitLaws::hex4_written))]
 fn clash_line(alloc: Global, line: u32, address: u16) -> Result<String, AllocError>
     ensures { IfOk result (λ text. string_bytes text ≡ hex_line (HexFault.Clash line address)) }
 {
@@ -101,7 +101,7 @@ fn why_word(why: Why) -> &'static str
 }
 
 /// The line of a stop at a step, at an address in words.
-#[tactic(auto, using(frp_tree::proofs::DigitLaws::hex4_written))]
+#[tactic(auto, using(text_parts::proofs::DigitLaws::hex4_written))]
 pub fn stop_line(alloc: Global, step: u32, address: u16, why: Why) -> Result<String, AllocError>
     ensures { IfOk result (λ text. string_bytes text ≡ stop_line step address why) }
 {

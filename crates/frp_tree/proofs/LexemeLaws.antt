@@ -5,9 +5,11 @@ use Rattle.std.proofs.lemmas.List.{take_at, drop_at, append_cancel_right}
 use Rattle.std.proofs.lemmas.Option.{same_Some}
 use Rattle.std.proofs.lemmas.Bool.Decides.{nat_tests}
 use Rattle.std.proofs.lemmas.List.Folds.{list_all-append}
-use Rattle.frp_tree.specs.Names.{is_digit, is_letter, is_between, has_form_of_name}
-use Rattle.frp_tree.specs.Tokens.{marks, is_blank, is_hex_digit, IsNumber, IsLexeme, value_after}
-use Rattle.frp_tree.specs.Fronts.{begins}
+use Rattle.text_parts.specs.Bytes.{is_digit, is_letter, is_hex_digit, begins}
+use Rattle.text_parts.specs.Names.{has_form_of_name}
+use Rattle.text_parts.specs.Numbers.{IsNumber, value_after}
+use Rattle.text_parts.proofs.NumberLaws.{digit_hex}
+use Rattle.frp_tree.specs.Tokens.{marks, is_blank, IsLexeme}
 use Rattle.frp_tree.specs.declared.tokens.Token.{Token}
 use Rattle.frp_tree.specs.declared.tokens.Token.TheVariants as token
 
@@ -32,9 +34,6 @@ blank_no_letter b x y = grind (arith, nat_tests)
 
 pub blank_no_digit : (b : ℕ) → is_blank b ≡ true → is_digit b ≡ true → ⊥
 blank_no_digit b x y = grind (arith, nat_tests)
-
-pub digit_hex : (b : ℕ) → is_digit b ≡ true → is_hex_digit b ≡ true
-digit_hex b x = or_left (is_digit b || is_between 65 70 b) (is_between 97 102 b) (or_left (is_digit b) (is_between 65 70 b) x)
 
 pub hex_word : (b : ℕ) → is_hex_digit b ≡ true → is_word_byte b ≡ true
 hex_word b x = grind (arith, nat_tests)

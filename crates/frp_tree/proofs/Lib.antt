@@ -1,4 +1,3 @@
-pub mod DigitLaws
 pub mod LexemeLaws
 pub mod LongestLaws
 pub mod TokenLaws

@@ -3,9 +3,10 @@ use Rattle.std.specs.List.{list_all}
 use Rattle.std.proofs.lemmas.Bool.{false≢true, cases_lt, and_from}
 use Rattle.std.proofs.lemmas.List.{append_assoc, length-append}
 use Rattle.std.proofs.lemmas.List.Folds.{list_all-append}
-use Rattle.frp_tree.specs.Names.{is_digit, is_letter}
-use Rattle.frp_tree.specs.Tokens.{marks, is_hex_digit, IsNumber, IsLexeme, IsLongest}
-use Rattle.frp_tree.specs.Fronts.{begins, IsLongestNumber}
+use Rattle.text_parts.specs.Bytes.{is_digit, is_letter, is_hex_digit, begins}
+use Rattle.text_parts.specs.Numbers.{IsNumber}
+use Rattle.frp_tree.specs.Tokens.{marks, IsLexeme, IsLongest}
+use Rattle.frp_tree.specs.Fronts.{IsLongestNumber}
 use Rattle.frp_tree.specs.declared.tokens.Token.{Token}
 use Rattle.frp_tree.specs.declared.tokens.Token.TheVariants as token
 use Rattle.frp_tree.proofs.LexemeLaws.{is_word_byte, is_number_byte, number_word, is_mark_start, Begins, weaker, same_parts, longest_run, word_begins, word_bytes, number_begins, number_bytes, mark_begins, mark_length, lexeme_begins, apart, letter_no_mark, digit_no_mark, digit_no_letter}

@@ -1,12 +1,9 @@
-use Rattle.std.specs.Prelude.{◌≡◌, ◌≢◌, ℕ, ◌≤◌, length, Bool, true, false, ◌&&◌, List, [], ◌∷◌, ◌++◌, ◌⊎◌}
+-- What may stand at the front of a text: a blank, a comment or a token, and what follows it.
+use Rattle.std.specs.Prelude.{◌≡◌, ◌≢◌, ℕ, ◌≤◌, length, Bool, true, false, ◌&&◌, List, ◌∷◌, ◌++◌, ◌⊎◌}
 use Rattle.std.specs.List.{AllByRecursion}
-use Rattle.frp_tree.specs.Tokens.{is_blank, IsNumber, IsLexeme, IsLongest, starts_word, starts_comment, AtLineEnd}
+use Rattle.text_parts.specs.Numbers.{IsNumber}
+use Rattle.frp_tree.specs.Tokens.{is_blank, IsLexeme, IsLongest, starts_word, starts_comment, AtLineEnd}
 use Rattle.frp_tree.specs.declared.tokens.Token.{Token}
-
--- The list has a first element, and that passes.
-abbrev pub begins : (ℕ → Bool) → List ℕ → Bool
-begins p [] = false
-begins p (b ∷ bs) = p b
 
 -- A blank at the front of a text, and what follows it.
 pub record IsBlank (text more : List ℕ) : Type 0 where

@@ -1,6 +1,10 @@
-use Rattle.std.specs.Prelude.{◌≡◌, ◌≢◌, ℕ, ◌≤◌, ◌+◌, ◌-◌, ◌*◌, Bool, true, false, ◌&&◌, ◌||◌, ◌==◌, nat_le, if◌then◌else◌, List, [], ◌∷◌, ◌++◌, length, Some, IsTrue, codes, slice_get, ◌⊎◌}
-use Rattle.std.specs.List.{list_all, AllByRecursion}
-use Rattle.frp_tree.specs.Names.{is_between, is_digit, is_letter, has_form_of_name}
+-- What a source text is cut into: the marks, what each token is spelled as, the rule of the longest token, and the
+-- faults of a text that has no tokens.
+use Rattle.std.specs.Prelude.{◌≡◌, ◌≢◌, ℕ, ◌≤◌, ◌+◌, Bool, true, false, ◌&&◌, ◌||◌, ◌==◌, List, [], ◌∷◌, ◌++◌, length, Some, IsTrue, codes, slice_get}
+use Rattle.std.specs.List.{AllByRecursion}
+use Rattle.text_parts.specs.Bytes.{is_digit, is_letter}
+use Rattle.text_parts.specs.Names.{has_form_of_name}
+use Rattle.text_parts.specs.Numbers.{IsNumber}
 use Rattle.frp_tree.specs.declared.tokens.Token.{Token}
 use Rattle.frp_tree.specs.declared.tokens.Token.TheVariants as token
 
@@ -14,35 +18,6 @@ marks =
 -- Space, tab, CR or LF.
 abbrev pub is_blank : ℕ → Bool
 is_blank b = b == 32 || b == 9 || b == 13 || b == 10
-
-abbrev pub is_hex_digit : ℕ → Bool
-is_hex_digit b = is_digit b || is_between 65 70 b || is_between 97 102 b
-
--- What a digit of either case stands for.
-abbrev pub digit_value : ℕ → ℕ
-digit_value b = if is_digit b then b - 48 else (if nat_le b 70 then b - 55 else b - 87)
-
--- The number that digits spell in a base, behind digits that spell `front`.
-abbrev pub value_after : ℕ → ℕ → List ℕ → ℕ
-value_after base front [] = front
-value_after base front (d ∷ ds) = value_after base (front * base + digit_value d) ds
-
--- One or more decimal digits.
-pub record IsDecimal (w : List ℕ) (n : ℕ) : Type 0 where
-  pub some : w ≢ []
-  pub digits : IsTrue (list_all is_digit w)
-  pub value : n ≡ value_after 10 0 w
-
--- `0x` and one or more hexadecimal digits of either case.
-pub record IsHexadecimal (w : List ℕ) (n : ℕ) : Type 0 where
-  pub digits : List ℕ
-  pub some : digits ≢ []
-  pub spelled : w ≡ codes "0x" ++ digits
-  pub hexadecimal : IsTrue (list_all is_hex_digit digits)
-  pub value : n ≡ value_after 16 0 digits
-
-abbrev pub IsNumber : List ℕ → ℕ → Type 0
-IsNumber w n = IsDecimal w n ⊎ IsHexadecimal w n
 
 -- The bytes spell the token.
 abbrev pub IsLexeme : List ℕ → Token → Type 0

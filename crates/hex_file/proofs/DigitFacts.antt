@@ -4,8 +4,9 @@ use Rattle.std.proofs.lemmas.Bool.{and_parts, and_from}
 use Rattle.std.proofs.lemmas.Bool.Decides.{nat_tests}
 use Rattle.std.specs.Char.{to_ascii_uppercase}
 use Rattle.std.specs.List.{All, flat_map, list_all}
-use Rattle.frp_tree.specs.Digits.{hex_digit, hex2}
-use Rattle.frp_tree.specs.Tokens.{is_hex_digit, digit_value}
+use Rattle.text_parts.specs.Bytes.{is_hex_digit}
+use Rattle.text_parts.specs.Digits.{hex_digit, hex2}
+use Rattle.text_parts.specs.Numbers.{digit_value}
 use Rattle.hex_file.specs.Faults.{spelled_bytes}
 
 -- One digit.

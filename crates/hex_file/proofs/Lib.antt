@@ -9,7 +9,6 @@ pub mod GivenBytes
 pub mod GivenFacts
 pub mod ImageLaws
 pub mod ImageMadeFacts
-pub mod LineCutFacts
 pub mod LineFacts
 pub mod PieceFacts
 pub mod RecordFacts

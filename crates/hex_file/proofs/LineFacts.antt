@@ -5,7 +5,7 @@ use Rattle.std.proofs.lemmas.Bool.Decides.{nat_tests}
 use Rattle.std.proofs.lemmas.List.Sums.{AllPass-from_list_all}
 use Rattle.std.specs.List.{All, AllZip, flat_map, list_all}
 use Rattle.std.specs.Str.{str_to_ascii_uppercase}
-use Rattle.frp_tree.specs.Digits.{hex_digit, hex2}
+use Rattle.text_parts.specs.Digits.{hex_digit, hex2}
 use Rattle.hex_file.specs.ImageOf.{HexRecord, record_bytes, IsAllowed, IsRecordLine}
 
 abbrev pub undigit : ℕ → ℕ

@@ -7,8 +7,8 @@ use Rattle.std.proofs.lemmas.List.{take_more, take_all, nil_from_length, length-
 use Rattle.std.proofs.lemmas.List.Sums.{sum_by_push}
 use Rattle.std.specs.Char.{to_ascii_uppercase}
 use Rattle.std.specs.List.{All, flat_map, list_all}
-use Rattle.frp_tree.specs.Digits.{hex2}
-use Rattle.frp_tree.specs.Tokens.{is_hex_digit}
+use Rattle.text_parts.specs.Bytes.{is_hex_digit}
+use Rattle.text_parts.specs.Digits.{hex2}
 use Rattle.hex_file.specs.Faults.{bytes_of, told_length, record_in, got_sum, want_sum, has_bad_char, has_bad_length, has_bad_sum, has_bad_type, has_bad_payload, is_out_of_range, is_upper}
 use Rattle.hex_file.specs.ImageOf.{HexRecord, record_bytes, IsAllowed, IsRecordLine}
 use Rattle.hex_file.specs.Written.{check_byte}

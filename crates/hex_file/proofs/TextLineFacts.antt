@@ -3,10 +3,11 @@ use Rattle.std.proofs.Common.{◌≡◌, ℕ, zero, suc, ◌-◌, ◌/◌, ◌%�
 use Rattle.std.proofs.lemmas.Bool.Decides.{nat_tests}
 use Rattle.std.proofs.lemmas.List.Splits.{slice_split_at}
 use Rattle.std.specs.Char.{to_ascii_uppercase}
-use Rattle.std.specs.List.{All, filter, flat_map, slice_split, onto_first}
+use Rattle.std.specs.List.{All, filter, flat_map, slice_split}
 use Rattle.std.specs.Str.{str_to_ascii_uppercase}
 use Rattle.std.specs.Str.Lines.{lines_of_parts, strip_carriage_return}
-use Rattle.frp_tree.specs.Digits.{hex_digit, hex2}
+use Rattle.text_parts.specs.Digits.{hex_digit, hex2}
+use Rattle.text_parts.proofs.CutLaws.{HasParts, has_parts}
 use Rattle.hex_file.specs.ImageOf.{nonempty_lines}
 use Rattle.hex_file.specs.Written.{line}
 
@@ -43,22 +44,6 @@ digits_no_ending e low (b ∷ bs) fit (suc (suc k)) d below =
 line_no_ending : (e : ℕ) → e < 48 → (bytes : List ℕ) → All (λ byte. byte < 256) bytes → All (λ d. (d == e) ≡ false) (spelled bytes)
 line_no_ending e low bytes fit zero d below = grind (arith, nat_tests)
 line_no_ending e low bytes fit (suc k) d below = digits_no_ending e low bytes fit k d (omega arith)
-
--- A text has one part at least.
-pub record HasParts (parts : List (List ℕ)) : Type 0 where
-  pub first : List ℕ
-  pub others : List (List ℕ)
-  pub is : parts ≡ first ∷ others
-
-onto_has : (x : ℕ) (parts : List (List ℕ)) → HasParts (onto_first x parts)
-onto_has x [] = record { first = x ∷ []; others = []; is = refl }
-onto_has x (part ∷ parts) = record { first = x ∷ part; others = parts; is = refl }
-
-pub has_parts : (text : List ℕ) → HasParts (slice_split (λ b. b == 10) text)
-has_parts [] = record { first = []; others = []; is = refl }
-has_parts (x ∷ xs) =
-    elim (x == 10) as (λ b. HasParts (cond b ([] ∷ slice_split (λ b. b == 10) xs) (onto_first x (slice_split (λ b. b == 10) xs))))
-    [ true ↦ record { first = []; others = slice_split (λ b. b == 10) xs; is = refl } | false ↦ onto_has x (slice_split (λ b. b == 10) xs) ]
 
 lines_before : (front : List ℕ) (parts : List (List ℕ)) → HasParts parts → strip_carriage_return front ≡ front
     → lines_of_parts (front ∷ parts) ≡ front ∷ lines_of_parts parts

@@ -2,7 +2,8 @@ use Rattle.std.specs.Prelude.{◌≡◌, ◌≢◌, ℕ, ◌<◌, ◌+◌, ◌-�
 use Rattle.std.specs.List.{All, AllZip, filter, list_all, list_any}
 use Rattle.std.specs.Option.{option_map, option_or}
 use Rattle.std.specs.Str.Lines.{lines}
-use Rattle.frp_tree.specs.Tokens.{is_hex_digit, digit_value}
+use Rattle.text_parts.specs.Bytes.{is_hex_digit}
+use Rattle.text_parts.specs.Numbers.{digit_value}
 use Rattle.hex_file.specs.ImageOf.{HexRecord, IsRecordLine, Agree}
 use Rattle.hex_file.specs.Written.{check_byte}
 use Rattle.hex_file.specs.declared.faults.HexFault.{HexFault}

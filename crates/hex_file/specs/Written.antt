@@ -1,6 +1,6 @@
 use Rattle.std.specs.Prelude.{◌==◌, ℕ, ◌<◌, ◌≤◌, ◌+◌, ◌-◌, ◌*◌, ◌/◌, ◌%◌, List, [], ◌∷◌, ◌++◌, length, sum, Option, Some, None, IfSome, codes, if◌then◌else◌}
 use Rattle.std.specs.List.{flat_map}
-use Rattle.frp_tree.specs.Digits.{hex2}
+use Rattle.text_parts.specs.Digits.{hex2}
 use Rattle.hex_file.specs.declared.images.Word.{Word}
 use Rattle.hex_file.specs.declared.images.Image.{Image}
 

@@ -1,6 +1,5 @@
 ghost use Rattle.std.specs.Prelude.{◌≡◌, ◌<◌, ◌+◌, ◌%◌, ◌⊎◌, ◌==◌, ◌||◌, not, nat_lt, [], length, IfOk, IfErr, OnOk, OnErr, true, false};
 ghost use Rattle.std.specs.List.{list_all};
-ghost use Rattle.frp_tree.specs.Tokens.{is_hex_digit};
 ghost use Rattle.hex_file.specs.Faults.{
   bytes_of,
   told_length,
@@ -21,6 +20,7 @@ use crate::faults::HexFault;
 use crate::records::check_byte;
 use crate::texts::spelled;
 use std::alloc::{AllocError, Global};
+use text_parts::are_hex_digits;
 
 /// A record that was read: its byte address, the number of its type, and its data.
 #[derive(Drop)]
@@ -61,19 +61,12 @@ fn are_zero(bytes: &[u8]) -> bool
     bytes.iter().all(|byte| *byte == 0)
 }
 
-/// Whether these bytes are hexadecimal digits, of either case.
-fn are_digits(bytes: &[u8]) -> bool
-    ensures { result ≡ list_all is_hex_digit bytes.now }
-{
-    bytes.iter().all(|byte| byte.is_ascii_hexdigit())
-}
-
 /// Whether a line doesn't begin with a colon, or has another byte than hexadecimal digits behind its first.
 fn has_bad_char(line: &[u8]) -> bool
     requires { 0 < length line.now }
     ensures { result ≡ has_bad_char line.now }
 {
-    line[0] != b':' || !are_digits(&line[1..])
+    line[0] != b':' || !are_hex_digits(&line[1..])
 }
 
 /// The bytes of a line that isn't empty: five at least, and as many as the first tells.

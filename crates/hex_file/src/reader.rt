@@ -9,8 +9,8 @@ use crate::faults::HexFault;
 use crate::images::Image;
 use crate::parsed::read_record;
 use crate::tables::{empty_table, give, image};
-use crate::texts::first_line;
 use std::alloc::Global;
+use text_parts::next_line;
 
 /// Gives the bytes of a line that isn't empty and stands before an end record, and says whether it is one.
 fn give_line(
@@ -41,8 +41,7 @@ fn give_lines(alloc: Global, bytes: &[u8], table: &mut [Option<u8>]) -> Result<b
     let mut rest = bytes;
     let mut number = 0;
     let mut ended = false;
-    while !rest.is_empty() {
-        let (line, more) = first_line(rest);
+    while let Some((line, more)) = next_line(rest) {
         number += 1;
         if !line.is_empty() {
             if ended {

@@ -1,5 +1,5 @@
 ghost use Rattle.std.specs.Prelude.{◌≡◌, ◌<◌, ◌/◌, ◌%◌, [], ◌∷◌, ◌++◌, length, OnOk, string_bytes};
-ghost use Rattle.frp_tree.specs.Digits.{hex2};
+ghost use Rattle.text_parts.specs.Digits.{hex2};
 ghost use Rattle.hex_file.specs.Kinds.{code};
 ghost use Rattle.hex_file.specs.Written.{check_byte, line, record_of};
 
@@ -26,7 +26,7 @@ pub fn check_byte(bytes: &[u8]) -> u8
 }
 
 /// Appends a byte in two digits.
-#[tactic(auto, using(frp_tree::proofs::DigitLaws::hex2_written))]
+#[tactic(auto, using(text_parts::proofs::DigitLaws::hex2_written))]
 fn push_byte(text: &mut String, byte: u8) -> Result<(), AllocError>
     ensures { OnOk result (string_bytes text.new ≡ string_bytes text.old ++ hex2 byte) }
 {

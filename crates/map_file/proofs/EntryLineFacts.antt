@@ -9,8 +9,10 @@ use Rattle.std.proofs.lemmas.Bool.{and_parts, and_from}
 use Rattle.std.proofs.lemmas.Bool.Decides.{nat_tests}
 use Rattle.std.proofs.lemmas.Fmt.{decimal_is_IsNumeral, decimal_injective}
 use Rattle.std.proofs.lemmas.Str.Parse.{digit_from_value}
-use Rattle.frp_tree.specs.Digits.{hex_digit, hex3, hex4}
-use Rattle.frp_tree.specs.Names.{is_letter, is_digit, has_form_of_name, is_name, type_name}
+use Rattle.text_parts.specs.Bytes.{is_letter, is_digit}
+use Rattle.text_parts.specs.Digits.{hex_digit, hex3, hex4}
+use Rattle.text_parts.specs.Names.{has_form_of_name, is_name}
+use Rattle.frp_tree.specs.Names.{type_name}
 use Rattle.frp_tree.specs.declared.syntax.Ty.{Ty}
 use Rattle.frp_tree.specs.declared.syntax.Ty.TheVariants as ty
 use Rattle.pic_isa.specs.declared.sources.Source.{Source}

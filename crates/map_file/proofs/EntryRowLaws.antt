@@ -7,7 +7,7 @@ use Rattle.std.proofs.lemmas.List.{append_assoc, append-nil}
 use Rattle.std.proofs.lemmas.List.Concat.{concat_is}
 use Rattle.std.proofs.lemmas.List.Folds.{flat_map-map}
 use Rattle.std.proofs.lemmas.Grind.{flat_map-append}
-use Rattle.frp_tree.specs.Names.{is_name}
+use Rattle.text_parts.specs.Names.{is_name}
 use Rattle.map_file.specs.declared.maps.MapEvent.{MapEvent}
 use Rattle.map_file.specs.declared.maps.MapSample.{MapSample}
 use Rattle.map_file.specs.declared.maps.Range.{Range}

@@ -11,8 +11,10 @@ use Rattle.std.proofs.lemmas.Str.{IsUtf8-from_ascii}
 use Rattle.std.proofs.lemmas.Str.Parse.{IsNumeralModel, numerals_by_value, tells_digits, parse_plain}
 use Rattle.std.specs.Str.Parse.{AllDigits, digits_value}
 use Rattle.std.proofs.lemmas.Fmt.{IsAscii-decimal, parse-decimal, first_decimal, decimal_digit, decimal-digits_value}
-use Rattle.frp_tree.specs.Digits.{hex3}
-use Rattle.frp_tree.specs.Names.{is_letter, is_digit, has_form_of_name, is_name, type_name}
+use Rattle.text_parts.specs.Bytes.{is_letter, is_digit}
+use Rattle.text_parts.specs.Digits.{hex3}
+use Rattle.text_parts.specs.Names.{has_form_of_name, is_name}
+use Rattle.frp_tree.specs.Names.{type_name}
 use Rattle.frp_tree.specs.declared.syntax.Ty.{Ty}
 use Rattle.frp_tree.specs.declared.syntax.Ty.TheVariants as ty
 use Rattle.pic_isa.specs.declared.sources.Source.{Source}

@@ -1,8 +1,9 @@
 -- What one line of a map states, its fields, and the order of such lines.
 use Rattle.std.specs.Prelude.{ℕ, ◌<◌, ◌≤◌, ◌^◌, List, [], ◌∷◌, ◌++◌, map, Option, Some, None, IsTrue, codes}
 use Rattle.std.specs.Fmt.{decimal}
-use Rattle.frp_tree.specs.Digits.{hex3, hex4}
-use Rattle.frp_tree.specs.Names.{is_name, type_name}
+use Rattle.text_parts.specs.Digits.{hex3, hex4}
+use Rattle.text_parts.specs.Names.{is_name}
+use Rattle.frp_tree.specs.Names.{type_name}
 use Rattle.pic_isa.specs.Sources.{source_name}
 use Rattle.pic_isa.specs.Names.{name_of_port}
 use Rattle.map_file.specs.declared.maps.MapEvent.{MapEvent}

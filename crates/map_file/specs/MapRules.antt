@@ -3,7 +3,7 @@ use Rattle.std.specs.Prelude.{◌≡◌, ◌≢◌, ℕ, ◌<◌, ◌≤◌, ◌
 use Rattle.std.specs.List.{AllByRecursion, list_any}
 use Rattle.std.specs.Str.{bytes_eq}
 use Rattle.frp_tree.specs.Priorities.{IsPriority}
-use Rattle.frp_tree.specs.Names.{is_name}
+use Rattle.text_parts.specs.Names.{is_name}
 use Rattle.frp_tree.specs.declared.syntax.Ty.{Ty}
 use Rattle.frp_tree.specs.declared.syntax.Ty.TheVariants as ty
 use Rattle.map_file.specs.declared.maps.MapEvent.{MapEvent}

@@ -2,7 +2,7 @@
 use Rattle.std.specs.Prelude.{ℕ, List, [], ◌∷◌, ◌++◌, codes}
 use Rattle.std.specs.List.{flat_map}
 use Rattle.std.specs.Fmt.{decimal}
-use Rattle.frp_tree.specs.Digits.{hex3, hex4}
+use Rattle.text_parts.specs.Digits.{hex3, hex4}
 use Rattle.frp_tree.specs.Names.{type_name}
 use Rattle.frp_tree.specs.declared.syntax.Ty.{Ty}
 use Rattle.frp_tree.specs.declared.syntax.Ty.TheVariants.{Bool, U8, U16}

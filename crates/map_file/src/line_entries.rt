@@ -1,8 +1,8 @@
 // What the line of each kind states, from its fields.
 ghost use Rattle.std.specs.Prelude.{◌≡◌, ◌≢◌, ℕ, ◌<◌, ◌≤◌, List, [], ◌∷◌, codes, MatchOption, IfOk, IsTrue, ◌↔◌};
 ghost use Rattle.std.specs.Fmt.{decimal};
-ghost use Rattle.frp_tree.specs.Digits.{hex4};
-ghost use Rattle.frp_tree.specs.Names.{is_name};
+ghost use Rattle.text_parts.specs.Digits.{hex4};
+ghost use Rattle.text_parts.specs.Names.{is_name};
 ghost use Rattle.pic_isa.specs.Names.{name_of_port};
 ghost use Rattle.map_file.specs.declared.entries.Entry.{Entry as Entries};
 ghost use Rattle.map_file.specs.declared.entries.Report.{Report as Reports};

@@ -3,8 +3,10 @@ ghost use Rattle.std.specs.Prelude.{◌≡◌, ◌≢◌, ℕ, ◌<◌, ◌≤�
 ghost use Rattle.std.specs.List.{list_all};
 ghost use Rattle.std.specs.Str.{IsUtf8};
 ghost use Rattle.std.specs.Fmt.{decimal};
-ghost use Rattle.frp_tree.specs.Digits.{hex_digit, hex3, hex4};
-ghost use Rattle.frp_tree.specs.Names.{is_digit, is_letter, is_name, has_form_of_name, type_name};
+ghost use Rattle.text_parts.specs.Bytes.{is_digit, is_letter};
+ghost use Rattle.text_parts.specs.Digits.{hex_digit, hex3, hex4};
+ghost use Rattle.text_parts.specs.Names.{is_name, has_form_of_name};
+ghost use Rattle.frp_tree.specs.Names.{type_name};
 ghost use Rattle.frp_tree.specs.declared.syntax.Ty.{Ty as Types};
 ghost use Rattle.pic_isa.specs.declared.sources.Source.{Source as Sources};
 ghost use Rattle.pic_isa.specs.Names.{name_of_port};

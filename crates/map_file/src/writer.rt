@@ -1,6 +1,6 @@
 // The text of a map is written line by line.
 ghost use Rattle.std.specs.Prelude.{◌≡◌, ◌++◌, ◌<◌, ◌∷◌, [], IfOk, OnOk, string_bytes, codes};
-ghost use Rattle.frp_tree.specs.Digits.{hex4};
+ghost use Rattle.text_parts.specs.Digits.{hex4};
 ghost use Rattle.std.specs.List.{flat_map, AllByRecursion};
 ghost use Rattle.map_file.specs.MapText.{
   map_text,
@@ -69,7 +69,7 @@ fn write_states(text: &mut String, states: &[MapState]) -> Result<(), AllocError
     Ok(())
 }
 
-#[tactic(auto, using(frp_tree::proofs::DigitLaws::hex3_written))]
+#[tactic(auto, using(text_parts::proofs::DigitLaws::hex3_written))]
 fn write_state(text: &mut String, state: &MapState) -> Result<(), AllocError>
     requires { IsState state.now }
     ensures { OnOk result (string_bytes text.new ≡ string_bytes text.old ++ state_line state.now) }

@@ -3,7 +3,7 @@ use Rattle.std.specs.Prelude.{◌≡◌, ℕ, zero, suc, List, [], ◌∷◌, �
 use Rattle.frp_tree.specs.declared.syntax.Ty.TheVariants.{U8, U16}
 use Rattle.frp_tree.specs.declared.syntax.Lit.TheVariants as lit
 use Rattle.frp_tree.specs.declared.syntax.Event.{Event}
-use Rattle.frp_tree.specs.Digits.{hex2}
+use Rattle.text_parts.specs.Digits.{hex2}
 use Rattle.frp_tree.specs.Tree.{Tree, Name, ClauseTree, DeclTree, ProgramTree}
 use Rattle.efrp_meaning.specs.Bounds.{levels, words_bound, ram_bound, settle_bound}
 use Rattle.efrp_meaning.proofs.Examples.Programs.{event, clause, reactive, one_more, wide, small, on_go, go, divided_by}

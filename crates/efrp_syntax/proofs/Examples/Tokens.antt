@@ -1,6 +1,8 @@
 use Rattle.std.proofs.Common.{◌≡◌, ℕ, true, false, List, [], ◌∷◌, Some, codes, slice_get, refl, ap, arith, lit≤}
-use Rattle.frp_tree.specs.Tokens.{marks, is_blank, is_hex_digit, value_after, HasTokens, IsBadByte, here}
-use Rattle.frp_tree.specs.Fronts.{begins, IsFront, Skips}
+use Rattle.text_parts.specs.Bytes.{is_hex_digit, begins}
+use Rattle.text_parts.specs.Numbers.{value_after}
+use Rattle.frp_tree.specs.Tokens.{marks, is_blank, HasTokens, IsBadByte, here}
+use Rattle.frp_tree.specs.Fronts.{IsFront, Skips}
 use Rattle.frp_tree.specs.declared.tokens.Token.TheVariants as token
 use Rattle.frp_tree.proofs.TokenLaws.{skip, take_front}
 use Rattle.efrp_syntax.proofs.MarkFrontFacts.{long_found}

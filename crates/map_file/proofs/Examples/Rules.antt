@@ -1,6 +1,6 @@
 -- Maps that keep the rules, and what breaks a rule.
 use Rattle.std.proofs.Common.{◌≡◌, ℕ, true, false, List, [], ◌∷◌, IsTrue, codes, refl, arith}
-use Rattle.frp_tree.specs.Names.{is_name}
+use Rattle.text_parts.specs.Names.{is_name}
 use Rattle.frp_tree.specs.declared.syntax.Ty.TheVariants as ty
 use Rattle.pic_isa.specs.declared.sources.Source.{Source}
 use Rattle.pic_isa.specs.declared.sources.Source.TheVariants as source

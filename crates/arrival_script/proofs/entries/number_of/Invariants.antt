@@ -1,7 +1,7 @@
 use Rattle.std.proofs.Common.{◌≡◌, ◌<◌, ◌^◌, drop}
 use Rattle.std.specs.List.{list_all}
-use Rattle.frp_tree.specs.Names.{is_digit}
-use Rattle.frp_tree.specs.Tokens.{value_after}
+use Rattle.text_parts.specs.Bytes.{is_digit}
+use Rattle.text_parts.specs.Numbers.{value_after}
 use Rattle.arrival_script.proofs.entries.number_of.Given as goal
 
 -- The digits that are left complete the number.

@@ -1,4 +1,5 @@
-use Rattle.efrp_syntax.proofs.NumberFrontFacts.{hexadecimal_front, decimal_front, digits_hex}
+use Rattle.efrp_syntax.proofs.NumberFrontFacts.{hexadecimal_front, decimal_front}
+use Rattle.text_parts.proofs.NumberLaws.{digits_hex}
 use Rattle.efrp_syntax.proofs.numbers.number.Goals as goal
 
 pub value-requires-in-None-clause-digits : goal.value-requires-in-None-clause-digits

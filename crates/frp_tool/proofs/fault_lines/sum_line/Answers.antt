@@ -1,5 +1,5 @@
 use Rattle.std.proofs.Common.{◌<◌, arith}
-use Rattle.frp_tree.proofs.DigitLaws.{hex2_written}
+use Rattle.text_parts.proofs.DigitLaws.{hex2_written}
 use Rattle.frp_tool.proofs.fault_lines.sum_line.Goals as goal
 
 pub returns : goal.returns

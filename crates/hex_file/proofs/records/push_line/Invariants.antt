@@ -1,6 +1,6 @@
 use Rattle.std.proofs.Common.{◌≡◌, ◌++◌, take, string_bytes}
 use Rattle.std.specs.List.{flat_map}
-use Rattle.frp_tree.specs.Digits.{hex2}
+use Rattle.text_parts.specs.Digits.{hex2}
 use Rattle.hex_file.proofs.records.push_line.Given as goal
 
 abbrev pub invariant-loop-byte : goal.invariant-loop-byte

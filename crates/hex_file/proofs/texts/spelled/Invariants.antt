@@ -1,6 +1,6 @@
 use Rattle.std.proofs.Common.{◌≡◌, ◌++◌, length, IsTrue}
 use Rattle.std.specs.List.{list_all}
-use Rattle.frp_tree.specs.Tokens.{is_hex_digit}
+use Rattle.text_parts.specs.Bytes.{is_hex_digit}
 use Rattle.hex_file.specs.Faults.{spelled_bytes}
 use Rattle.hex_file.proofs.texts.spelled.Given as goal
 

@@ -1,5 +1,5 @@
 use Rattle.std.proofs.Common.{◌<◌, arith}
-use Rattle.frp_tree.proofs.DigitLaws.{hex3_written}
+use Rattle.text_parts.proofs.DigitLaws.{hex3_written}
 use Rattle.map_file.proofs.writer.write_range.Goals as goal
 
 pub returns : goal.returns

@@ -1,5 +1,5 @@
 use Rattle.std.proofs.Common.{◌<◌, arith}
-use Rattle.frp_tree.proofs.DigitLaws.{hex4_written}
+use Rattle.text_parts.proofs.DigitLaws.{hex4_written}
 use Rattle.map_file.proofs.writer.write_sample.Goals as goal
 
 pub returns : goal.returns

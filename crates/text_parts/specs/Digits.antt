@@ -1,3 +1,4 @@
+-- How a number is written in hexadecimal digits, each of a fixed number.
 use Rattle.std.specs.Prelude.{ℕ, ◌+◌, ◌/◌, ◌%◌, List, [], ◌∷◌, nat_lt, if◌then◌else◌}
 
 -- An upper-case hexadecimal digit.

@@ -7,7 +7,7 @@ use Rattle.std.proofs.lemmas.Bool.{cases_lt}
 use Rattle.std.proofs.lemmas.Fmt.{hex_one_digit, hex_two_digits, hex_byte}
 use Rattle.std.proofs.DigitsParse.{digits_onto-nil, digits_onto_last, digits_onto_step}
 use Rattle.std.specs.Fmt.{digits, padded_integral, format_spec, char_count}
-use Rattle.frp_tree.specs.Digits.{hex_digit, hex2, hex3, hex4}
+use Rattle.text_parts.specs.Digits.{hex_digit, hex2, hex3, hex4}
 
 -- without the zeros: three digits, and four
 

@@ -1,0 +1,32 @@
+-- The numbers that digits spell.
+use Rattle.std.proofs.Common.{◌≡◌, ℕ, ◌+◌, ◌*◌, ◌<◌, ◌≤◌, ◌||◌, true, List, [], ◌∷◌, length, get_or, drop, refl, sym, ◌∙◌, arith}
+use Rattle.std.specs.List.{list_all}
+use Rattle.std.proofs.lemmas.Bool.{and_parts, and_from, or_left}
+use Rattle.std.proofs.lemmas.List.{at_drop_more, at_drop_all}
+use Rattle.text_parts.specs.Bytes.{is_between, is_digit, is_hex_digit}
+use Rattle.text_parts.specs.Numbers.{value_after, digit_value}
+
+pub digit_hex : (b : ℕ) → is_digit b ≡ true → is_hex_digit b ≡ true
+digit_hex b x = or_left (is_digit b || is_between 65 70 b) (is_between 97 102 b) (or_left (is_digit b) (is_between 65 70 b) x)
+
+pub digits_hex : (w : List ℕ) → list_all is_digit w ≡ true → list_all is_hex_digit w ≡ true
+digits_hex [] h = refl
+digits_hex (b ∷ bs) h = let (x, y) = and_parts (is_digit b) (list_all is_digit bs) h in and_from (is_hex_digit b) (list_all is_hex_digit bs) (digit_hex b x) (digits_hex bs y)
+
+-- More digits make no smaller number.
+pub value_grows : (base front : ℕ) (ds : List ℕ) → 0 < base → front ≤ value_after base front ds
+value_grows base front [] h = omega arith
+value_grows base front (d ∷ ds) h = let more : front ≤ front * base = grows front base h in let rest : front * base + digit_value d ≤ value_after base (front * base + digit_value d) ds = value_grows base (front * base + digit_value d) ds h in omega arith
+  where
+    grows : (m n : ℕ) → 0 < n → m ≤ m * n
+    grows m n p = grind arith
+
+-- Where the next digit makes a number of this size, it has at least that in the end.
+pub value_past : (base front n most i : ℕ) (ds : List ℕ) → 0 < base → i < length ds → value_after base front (drop i ds) ≡ n → most ≤ front * base + digit_value (get_or ds i 0) → most ≤ n
+value_past base front n most i ds h l e past =
+    let at : value_after base front (drop i ds) ≡ value_after base front (get_or ds i 0 ∷ drop (i + 1) ds) = at_drop_more (value_after base front) ds i 0 l in
+    omega (arith, value_grows base (front * base + digit_value (get_or ds i 0)) (drop (i + 1) ds) h)
+
+-- Behind the last digit the number is whole.
+pub value_whole : (base front n i : ℕ) (ds : List ℕ) → length ds ≤ i → value_after base front (drop i ds) ≡ n → front ≡ n
+value_whole base front n i ds l e = sym (at_drop_all (value_after base front) ds i l) ∙ e
