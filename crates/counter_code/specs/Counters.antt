@@ -7,6 +7,7 @@ use Rattle.frp_tree.specs.declared.syntax.Ty.TheVariants.{U8}
 use Rattle.frp_tree.specs.declared.syntax.Lit.TheVariants as lit
 use Rattle.frp_tree.specs.declared.syntax.BinOp.TheVariants.{Add}
 use Rattle.frp_tree.specs.declared.syntax.Setup.{Setup}
+use Rattle.frp_tree.specs.declared.marks.TheConstants.{SEMICOLON, COLON, EQUALS, OPENING_BRACE, CLOSING_BRACE, ARROW, PLUS}
 use Rattle.frp_tree.specs.declared.tokens.Token.{Token}
 use Rattle.frp_tree.specs.declared.tokens.Token.TheVariants.{Word, Num, Mark}
 use Rattle.frp_tree.specs.Tree.{Tree, Const, Name, Binary, Reactive, ProgramTree}
@@ -53,25 +54,25 @@ program_of c = record {
 
 -- The marks by what they are.
 abbrev pub semicolon : Token
-semicolon = Mark 0
+semicolon = Mark SEMICOLON
 
 abbrev pub colon : Token
-colon = Mark 1
+colon = Mark COLON
 
 abbrev pub equals : Token
-equals = Mark 2
+equals = Mark EQUALS
 
 abbrev pub opening : Token
-opening = Mark 3
+opening = Mark OPENING_BRACE
 
 abbrev pub closing : Token
-closing = Mark 4
+closing = Mark CLOSING_BRACE
 
 abbrev pub arrow : Token
-arrow = Mark 7
+arrow = Mark ARROW
 
 abbrev pub plus : Token
-plus = Mark 21
+plus = Mark PLUS
 
 -- The tokens of each item, by the grammar: `event NAME = NAME priority NUM ;`
 abbrev pub event_tokens : List ℕ → List ℕ → ℕ → List Token

@@ -7,10 +7,14 @@
 mod classes;
 mod faults;
 mod fronts;
+mod keywords;
+mod laws;
 mod lexer;
 mod marks;
 mod numbers;
 
 pub use faults::{Kind, SyntaxFault};
 pub use frp_tree::Token;
+pub use keywords::is_keyword;
+pub use laws::one_list_of_tokens;
 pub use lexer::lex;

@@ -1,6 +1,9 @@
+// The mark at the front of a text.
 ghost use Rattle.std.specs.Prelude.{◌≡◌, ◌≢◌, ℕ, [], ◌∷◌, Some, MatchOption, slice_get};
 ghost use Rattle.frp_tree.specs.Tokens.{marks};
 ghost use Rattle.efrp_syntax.specs.Pieces.{HasNoLongMark, HasNoMark, IsMarkFront};
+
+use frp_tree::marks;
 
 /// The number of the mark of these two bytes.
 fn two_byte_mark(first: u8, second: u8) -> Option<u8>
@@ -9,15 +12,15 @@ fn two_byte_mark(first: u8, second: u8) -> Option<u8>
         (λ k. slice_get marks k ≡ Some (first ∷ second ∷ [])) }
 {
     match (first, second) {
-        (b'=', b'>') => Some(7),
-        (b'|', b'|') => Some(8),
-        (b'&', b'&') => Some(9),
-        (b'=', b'=') => Some(10),
-        (b'!', b'=') => Some(11),
-        (b'<', b'=') => Some(13),
-        (b'>', b'=') => Some(15),
-        (b'<', b'<') => Some(19),
-        (b'>', b'>') => Some(20),
+        (b'=', b'>') => Some(marks::ARROW),
+        (b'|', b'|') => Some(marks::OR),
+        (b'&', b'&') => Some(marks::AND),
+        (b'=', b'=') => Some(marks::EQUAL_TO),
+        (b'!', b'=') => Some(marks::DIFFERENT_FROM),
+        (b'<', b'=') => Some(marks::LESS_OR_EQUAL),
+        (b'>', b'=') => Some(marks::GREATER_OR_EQUAL),
+        (b'<', b'<') => Some(marks::SHIFT_LEFT),
+        (b'>', b'>') => Some(marks::SHIFT_RIGHT),
         _ => None,
     }
 }
@@ -29,25 +32,28 @@ fn one_byte_mark(byte: u8) -> Option<u8>
         (λ k. slice_get marks k ≡ Some (byte ∷ [])) }
 {
     match byte {
-        b';' => Some(0),
-        b':' => Some(1),
-        b'=' => Some(2),
-        b'{' => Some(3),
-        b'}' => Some(4),
-        b'(' => Some(5),
-        b')' => Some(6),
-        b'<' => Some(12),
-        b'>' => Some(14),
-        b'|' => Some(16),
-        b'^' => Some(17),
-        b'&' => Some(18),
-        b'+' => Some(21),
-        b'-' => Some(22),
-        b'*' => Some(23),
-        b'/' => Some(24),
-        b'%' => Some(25),
-        b'~' => Some(26),
-        b'!' => Some(27),
+        b';' => Some(marks::SEMICOLON),
+        b':' => Some(marks::COLON),
+        b'=' => Some(marks::EQUALS),
+        b'{' => Some(marks::OPENING_BRACE),
+        b'}' => Some(marks::CLOSING_BRACE),
+        b'(' => Some(marks::OPENING_PARENTHESIS),
+        b')' => Some(marks::CLOSING_PARENTHESIS),
+        b'<' => Some(marks::LESS),
+        b'>' => Some(marks::GREATER),
+        b'|' => Some(marks::BIT_OR),
+        b'^' => Some(marks::BIT_XOR),
+        b'&' => Some(marks::BIT_AND),
+        b'+' => Some(marks::PLUS),
+        b'-' => Some(marks::MINUS),
+        b'*' => Some(marks::TIMES),
+        b'/' => Some(marks::DIVIDED_BY),
+        b'%' => Some(marks::REMAINDER),
+        b'~' => Some(marks::BIT_NOT),
+        b'!' => Some(marks::NOT),
+        b'[' => Some(marks::OPENING_BRACKET),
+        b']' => Some(marks::CLOSING_BRACKET),
+        b',' => Some(marks::COMMA),
         _ => None,
     }
 }

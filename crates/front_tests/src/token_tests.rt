@@ -1,14 +1,14 @@
 use efrp_syntax::{SyntaxFault, lex};
-use frp_tree::Token;
+use frp_tree::{Token, marks};
 use std::test::Fail;
 
 const MARKS: &[u8] =
-    b"; : = { } ( ) => || && == != < <= > >= | ^ & << >> + - * / % ~ ! // ;\r and on";
+    b"; : = { } ( ) => || && == != < <= > >= | ^ & << >> + - * / % ~ ! [ ] , // ;\r and on";
 
 #[test]
 fn each_mark_has_its_number(rt: HostRuntime) -> Result<(), Fail> {
     let tokens = lex(rt.alloc(), MARKS)?;
-    assert_eq!(rt; tokens.len(), 28);
+    assert_eq!(rt; tokens.len(), 31);
     let numbered = tokens.as_slice().iter().enumerate().all(|(
         i,
         token,
@@ -22,7 +22,7 @@ fn names_and_numbers(rt: HostRuntime) -> Result<(), Fail> {
     let tokens = lex(rt.alloc(), b"a=>0x1Fw//c\n007\t65535w _b9")?;
     assert_eq!(rt; tokens.len(), 6);
     assert!(rt; matches!(tokens.get(0), Some(Token::Word(name)) if name.as_str() == "a"));
-    assert!(rt; matches!(tokens.get(1), Some(Token::Mark(7))));
+    assert!(rt; matches!(tokens.get(1), Some(Token::Mark(marks::ARROW))));
     assert!(rt; matches!(tokens.get(2), Some(Token::Wide(31))));
     assert!(rt; matches!(tokens.get(3), Some(Token::Num(7))));
     assert!(rt; matches!(tokens.get(4), Some(Token::Wide(65_535))));

@@ -8,23 +8,8 @@ ghost use Rattle.counter_code.specs.Counters.{clause_tokens, decl_tokens, event_
 ghost use Rattle.frp_tool.specs.Items.{IsEventItem};
 
 use crate::phrases::{after_mark, after_word, byte, name, word};
-use frp_tree::{Text, Token};
+use frp_tree::{Text, Token, marks};
 use pic_isa::{Source, port_named, register_named, source_named};
-
-/// The numbers of the marks.
-const SEMICOLON: u8 = 0;
-
-const COLON: u8 = 1;
-
-const EQUALS: u8 = 2;
-
-const OPENING: u8 = 3;
-
-const CLOSING: u8 = 4;
-
-const ARROW: u8 = 7;
-
-const PLUS: u8 = 21;
 
 /// `event NAME = NAME priority NUM ;`
 #[derive(Clone, Copy, Debug)]
@@ -42,12 +27,12 @@ pub fn event_item<'a>(tokens: &'a [Token]) -> Option<(EventItem<'a>, &'a [Token]
 {
     let rest = after_word(tokens, "event")?;
     let (event, rest) = name(rest)?;
-    let rest = after_mark(rest, EQUALS)?;
+    let rest = after_mark(rest, marks::EQUALS)?;
     let (source, rest) = word(rest)?;
     let source = source_named(source.as_str())?;
     let rest = after_word(rest, "priority")?;
     let (priority, rest) = byte(rest)?;
-    let rest = after_mark(rest, SEMICOLON)?;
+    let rest = after_mark(rest, marks::SEMICOLON)?;
     if priority < 1 || 11 < priority {
         return None;
     }
@@ -76,9 +61,9 @@ pub fn setup_item<'a>(tokens: &'a [Token]) -> Option<(SetupItem<'a>, &'a [Token]
     let rest = after_word(tokens, "setup")?;
     let (register, rest) = word(rest)?;
     let address = register_named(register.as_str())?;
-    let rest = after_mark(rest, EQUALS)?;
+    let rest = after_mark(rest, marks::EQUALS)?;
     let (value, rest) = byte(rest)?;
-    let rest = after_mark(rest, SEMICOLON)?;
+    let rest = after_mark(rest, marks::SEMICOLON)?;
     let item = SetupItem {
         register,
         address,
@@ -102,13 +87,13 @@ pub fn decl_item<'a>(tokens: &'a [Token]) -> Option<(DeclItem<'a>, &'a [Token])>
 {
     let rest = after_word(tokens, "let")?;
     let (decl, rest) = name(rest)?;
-    let rest = after_mark(rest, COLON)?;
+    let rest = after_mark(rest, marks::COLON)?;
     let rest = after_word(rest, "u8")?;
-    let rest = after_mark(rest, EQUALS)?;
+    let rest = after_mark(rest, marks::EQUALS)?;
     let rest = after_word(rest, "init")?;
     let (init, rest) = byte(rest)?;
     let rest = after_word(rest, "in")?;
-    let rest = after_mark(rest, OPENING)?;
+    let rest = after_mark(rest, marks::OPENING_BRACE)?;
     Some((DeclItem { name: decl, init }, rest))
 }
 
@@ -127,13 +112,13 @@ pub fn clause_item<'a>(tokens: &'a [Token]) -> Option<(ClauseItem<'a>, &'a [Toke
         (λ found. (found.0.step < 256) × (tokens.now ≡ clause_tokens found.0.event.now found.0.name.now found.0.step ++ found.1.now)) }
 {
     let (event, rest) = word(tokens)?;
-    let rest = after_mark(rest, ARROW)?;
+    let rest = after_mark(rest, marks::ARROW)?;
     let (decl, rest) = word(rest)?;
-    let rest = after_mark(rest, PLUS)?;
+    let rest = after_mark(rest, marks::PLUS)?;
     let (step, rest) = byte(rest)?;
-    let rest = after_mark(rest, SEMICOLON)?;
-    let rest = after_mark(rest, CLOSING)?;
-    let rest = after_mark(rest, SEMICOLON)?;
+    let rest = after_mark(rest, marks::SEMICOLON)?;
+    let rest = after_mark(rest, marks::CLOSING_BRACE)?;
+    let rest = after_mark(rest, marks::SEMICOLON)?;
     let item = ClauseItem {
         event,
         name: decl,
@@ -158,8 +143,8 @@ pub fn output_item<'a>(tokens: &'a [Token]) -> Option<(OutputItem<'a>, &'a [Toke
     let rest = after_word(tokens, "output")?;
     let (port, rest) = word(rest)?;
     let port = port_named(port.as_str())?;
-    let rest = after_mark(rest, EQUALS)?;
+    let rest = after_mark(rest, marks::EQUALS)?;
     let (decl, rest) = word(rest)?;
-    let rest = after_mark(rest, SEMICOLON)?;
+    let rest = after_mark(rest, marks::SEMICOLON)?;
     Some((OutputItem { port, name: decl }, rest))
 }

@@ -3,6 +3,7 @@ ghost use Rattle.frp_tree.specs.Names.{is_keyword};
 ghost use Rattle.frp_tree.specs.declared.tokens.Token.{Token as Tokens};
 ghost use Rattle.frp_tree.specs.declared.tokens.Token.TheVariants as token;
 
+use efrp_syntax::is_keyword;
 use frp_tree::{Text, Token};
 
 // The word that tokens begin with, and what follows it.
@@ -50,37 +51,12 @@ pub fn after_mark<'a>(tokens: &'a [Token], mark: u8) -> Option<&'a [Token]>
     }
 }
 
-// Whether a word is no name.
-fn is_reserved(word: &str) -> bool
-    ensures { result ≡ is_keyword word.now }
-{
-    matches!(
-        word,
-        "event"
-            | "priority"
-            | "setup"
-            | "let"
-            | "init"
-            | "in"
-            | "later"
-            | "output"
-            | "if"
-            | "then"
-            | "else"
-            | "true"
-            | "false"
-            | "bool"
-            | "u8"
-            | "u16"
-    )
-}
-
 // The name that tokens begin with, and what follows it.
 pub fn name<'a>(tokens: &'a [Token]) -> Option<(&'a Text, &'a [Token])>
     ensures { MatchOption result ((text : List ℕ) (rest : List Tokens) → is_keyword text ≡ false → tokens.now ≢ token.Word text ∷ rest) (λ found. (is_keyword found.0.now ≡ false) × (tokens.now ≡ token.Word found.0.now ∷ found.1.now)) }
 {
     let (text, rest) = word(tokens)?;
-    if is_reserved(text.as_str()) {
+    if is_keyword(text.as_str()) {
         None
     } else {
         Some((text, rest))

@@ -15,7 +15,8 @@ type_name ty.U16 = codes "u16"
 abbrev pub keywords : List (List ℕ)
 keywords =
     codes "event" ∷ codes "priority" ∷ codes "setup" ∷ codes "let" ∷ codes "init" ∷ codes "in" ∷ codes "later" ∷ codes "output"
-    ∷ codes "if" ∷ codes "then" ∷ codes "else" ∷ codes "true" ∷ codes "false" ∷ codes "bool" ∷ codes "u8" ∷ codes "u16" ∷ []
+    ∷ codes "if" ∷ codes "then" ∷ codes "else" ∷ codes "true" ∷ codes "false" ∷ codes "bool" ∷ codes "u8" ∷ codes "u16"
+    ∷ codes "input" ∷ codes "table" ∷ []
 
 abbrev pub is_keyword : List ℕ → Bool
 is_keyword word = list_any (bytes_eq word) keywords

@@ -8,12 +8,13 @@ use Rattle.text_parts.specs.Numbers.{IsNumber}
 use Rattle.frp_tree.specs.declared.tokens.Token.{Token}
 use Rattle.frp_tree.specs.declared.tokens.Token.TheVariants as token
 
--- The marks, in the order of their numbers.
+-- The marks, in the order of their numbers, which have names in `frp_tree::marks`.
 abbrev pub marks : List (List ℕ)
 marks =
     codes ";" ∷ codes ":" ∷ codes "=" ∷ codes "{" ∷ codes "}" ∷ codes "(" ∷ codes ")" ∷ codes "=>" ∷ codes "||" ∷ codes "&&"
     ∷ codes "==" ∷ codes "!=" ∷ codes "<" ∷ codes "<=" ∷ codes ">" ∷ codes ">=" ∷ codes "|" ∷ codes "^" ∷ codes "&"
-    ∷ codes "<<" ∷ codes ">>" ∷ codes "+" ∷ codes "-" ∷ codes "*" ∷ codes "/" ∷ codes "%" ∷ codes "~" ∷ codes "!" ∷ []
+    ∷ codes "<<" ∷ codes ">>" ∷ codes "+" ∷ codes "-" ∷ codes "*" ∷ codes "/" ∷ codes "%" ∷ codes "~" ∷ codes "!" ∷ codes "["
+    ∷ codes "]" ∷ codes "," ∷ []
 
 -- Space, tab, CR or LF.
 abbrev pub is_blank : ℕ → Bool

@@ -6,6 +6,7 @@
 #![tactic(auto)]
 
 mod lists;
+pub mod marks;
 mod syntax;
 mod texts;
 mod tokens;

@@ -1,3 +1,4 @@
+// What the lexer cuts a source text into.
 use crate::texts::Text;
 
 /// What a source text is cut into.
@@ -9,7 +10,7 @@ pub enum Token {
     Num(u16),
     /// A number with the suffix `w`.
     Wide(u16),
-    /// A mark, by its number in `; : = { } ( ) => || && == != < <= > >= | ^ & << >> + - * / % ~ !`,
-    /// counted from 0.
+    /// A mark, by its number in `; : = { } ( ) => || && == != < <= > >= | ^ & << >> + - * / % ~ ! [ ] ,`, counted from
+    /// 0. `marks` has their names.
     Mark(u8),
 }

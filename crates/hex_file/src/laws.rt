@@ -1,9 +1,15 @@
+// Laws on files and their images. Each is the contract of a function that does nothing.
 ghost use Rattle.std.specs.Prelude.{◌≡◌, ℕ, [], List};
 ghost use Rattle.hex_file.specs.Faults.{FirstFault};
 ghost use Rattle.hex_file.specs.ImageOf.{IsImageOf};
 ghost use Rattle.hex_file.specs.Written.{IsWritable, written};
 ghost use Rattle.hex_file.specs.declared.faults.HexFault.{HexFault as Faults};
 ghost use Rattle.hex_file.specs.declared.images.Image.{Image as Images};
+
+/// A file means at most one image.
+pub fn one_image()
+    ensures { (bytes : List ℕ) (some other : Images) → IsImageOf bytes some → IsImageOf bytes other → some ≡ other }
+{}
 
 /// A file that has a fault has no image.
 pub fn faulty_has_no_image()

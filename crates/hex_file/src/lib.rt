@@ -17,6 +17,6 @@ mod writer;
 
 pub use faults::HexFault;
 pub use images::{Aside, Image, Word};
-pub use laws::{faulty_has_no_image, written_is_read};
+pub use laws::{faulty_has_no_image, one_image, written_is_read};
 pub use reader::read;
 pub use writer::write;
