@@ -126,6 +126,7 @@ fn map(alloc: Global) -> Result<Map, AllocError>
         events: List::from_vec(vec![in alloc; go]?),
         states: List::from_vec(vec![in alloc; n, w, b]?),
         outputs: List::new(alloc),
+        samples: List::new(alloc),
         ready: 11,
         regs: List::new(alloc),
         depth: 1,

@@ -49,6 +49,7 @@ map = record {
   events = go ∷ tick ∷ [];
   states = record { name = codes "n"; ty = ty.U8; low = 0x020; high = 0x020 } ∷ record { name = codes "w"; ty = ty.U16; low = 0x020; high = 0x021 } ∷ [];
   outputs = [];
+  samples = [];
   ready = 11;
   regs = [];
   depth = 1;
