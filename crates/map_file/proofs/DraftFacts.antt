@@ -348,8 +348,8 @@ admitted m xs more d (entry.Sample s) rules same h =
     let later = filter_map sample_in more in
     let all : m.samples ≡ d.map.samples ++ (s ∷ later) = sym (samples_of m) ∙ ap (filter_map sample_in) same ∙ filter_map-append sample_in xs (entry.Sample s ∷ more) ∙ ap (λ u. u ++ (s ∷ later)) h.samples in
     let events : m.events ≡ d.map.events =
-        sym (events_of m) ∙ ap (filter_map event_in) same ∙ filter_map-append event_in xs (entry.Sample s ∷ more)
-        ∙ ap (λ u. filter_map event_in xs ++ u) (no_event_after_sample m d.section xs more s h.reached same) ∙ append-nil (filter_map event_in xs) ∙ h.events in
+    sym (events_of m) ∙ ap (filter_map event_in) same ∙ filter_map-append event_in xs (entry.Sample s ∷ more)
+    ∙ ap (λ u. filter_map event_in xs ++ u) (no_event_after_sample m d.section xs more s h.reached same) ∙ append-nil (filter_map event_in xs) ∙ h.events in
     let pairs = differ_front pair d.map.samples s later (subst (AllDiffer pair) all rules.sample_pairs) in
     let fits = all_front (IsSample m.events) d.map.samples s later (subst (AllByRecursion (IsSample m.events)) all rules.samples) in
     let known = subst (λ es. names_event es s.event ≡ true) events fits.event in
