@@ -85,7 +85,7 @@ module _ (p : ProgramTree) (typed : IsTyped p) (s : State) (values : List ℕ �
       by_name y named false other = known y (others-kept x y other (names_in e) named)
 
 -- The clause for an event is of the definition's type.
-abbrev ClauseTyped : ProgramTree → Ty → Option ClauseTree → Type 0
+abbrev pub ClauseTyped : ProgramTree → Ty → Option ClauseTree → Type 0
 ClauseTyped p t None = Unit {0}
 ClauseTyped p t (Some c) = type_of p c.expr ≡ Some t
 
@@ -98,7 +98,7 @@ clause-typed p t event (c ∷ cs) typed = by_event (bytes_eq event c.event) (cla
     by_event false rest = rest
 
 module _ (p : ProgramTree) (typed : IsTyped p) (s : State) (is_state : IsState p s) (j : Samples) (are_samples : AreSamples p j) where
-  old-typed : (x : List ℕ) (d : DeclTree) → decl_named p.decls x ≡ Some d → is_reactive d.behaviour ≡ true → HasValue (Some d.ty) (old_state p s x)
+  pub old-typed : (x : List ℕ) (d : DeclTree) → decl_named p.decls x ≡ Some d → is_reactive d.behaviour ≡ true → HasValue (Some d.ty) (old_state p s x)
   old-typed x d found reactive = value_at-found is_reactive (λ c. c.ty) p.decls s x d reactive found is_state
 
   sample-typed : (x : List ℕ) (d : DeclTree) → decl_named p.decls x ≡ Some d → is_input d.behaviour ≡ true → HasValue (Some U8) (sample_of p j x)

@@ -5,4 +5,6 @@ pub mod Examples
 pub mod FirstFormLaws
 pub mod MeaningLaws
 pub mod NeedsLaws
+pub mod SampleLaws
+pub mod StateLaws
 pub mod TypedValueLaws
