@@ -2,6 +2,10 @@
 pub mod Bounds
 pub mod Causality
 pub mod LargeBounds
+pub mod Needed
 pub mod Operators
 pub mod Programs
 pub mod Reactions
+pub mod Samples
+pub mod Tables
+pub mod Weights

@@ -1,4 +1,5 @@
 pub mod Fronts
+pub mod Limits
 pub mod Literals
 pub mod Names
 pub mod Priorities

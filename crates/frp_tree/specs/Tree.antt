@@ -82,5 +82,5 @@ decl_of d = record { name = d.name; ty = d.ty; behaviour = behaviour_of d.behavi
 abbrev pub output_of : Output → OutputTree
 output_of o = record { port = o.port; expr = tree_of o.expr }
 
-abbrev pub program_of : Program → ProgramTree
-program_of p = record { events = p.events; setups = p.setups; decls = map decl_of p.decls; outputs = map output_of p.outputs }
+abbrev pub program_tree_of : Program → ProgramTree
+program_tree_of p = record { events = p.events; setups = p.setups; decls = map decl_of p.decls; outputs = map output_of p.outputs }

@@ -1,3 +1,4 @@
+// A list that grows at its end.
 ghost use Rattle.std.specs.Prelude.{◌≡◌, ◌∷◌, [], ◌++◌, length, OnOk, OnErr, slice_get};
 ghost use Rattle.std.specs.Option.{option_copied};
 
@@ -61,7 +62,7 @@ impl<T> List<T> {
 }
 
 impl<T: Drop> List<T> {
-    /// Adds an item at the end. An `Err` is want of memory, and drops the item.
+    /// Adds an item at the end. An `Err` is out of memory, and drops the item.
     pub fn push(&mut self, item: T) -> Result<(), AllocError>
         ensures ok { OnOk result (self.new ≡ self.old ++ item ∷ []) }
         ensures err { OnErr result (self.new ≡ self.old) }
@@ -72,7 +73,7 @@ impl<T: Drop> List<T> {
 }
 
 impl<T: Copy> List<T> {
-    /// Adds copies of these items at the end. An `Err` is want of memory, and changes nothing.
+    /// Adds copies of these items at the end. An `Err` is out of memory, and changes nothing.
     pub fn extend_from_slice(&mut self, items: &[T]) -> Result<(), AllocError>
         ensures ok { OnOk result (self.new ≡ self.old ++ items.now) }
         ensures err { OnErr result (self.new ≡ self.old) }

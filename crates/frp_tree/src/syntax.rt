@@ -1,3 +1,4 @@
+// The tree of a program, and the value of a literal.
 ghost use Rattle.std.specs.Prelude.{◌≡◌};
 ghost use Rattle.frp_tree.specs.Literals.{lit_value_of};
 ghost use Rattle.frp_tree.specs.Names.{type_name};

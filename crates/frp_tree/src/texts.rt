@@ -1,3 +1,4 @@
+// A text that is owned.
 ghost use Rattle.std.specs.Prelude.{◌≡◌, IfOk};
 
 use std::alloc::{AllocError, Global};
@@ -19,7 +20,7 @@ impl Model for Text {
 }
 
 impl Text {
-    /// A text of its own with these bytes. An `Err` is want of memory.
+    /// A text of its own with these bytes. An `Err` is out of memory.
     pub fn new(alloc: Global, s: &str) -> Result<Text, AllocError>
         ensures { IfOk result (λ t. t ≡ s.now) }
     {
@@ -28,7 +29,7 @@ impl Text {
         })
     }
 
-    /// A second text with the same bytes. An `Err` is want of memory.
+    /// A second text with the same bytes. An `Err` is out of memory.
     pub fn copy(&self, alloc: Global) -> Result<Text, AllocError>
         ensures { IfOk result (λ t. t ≡ self.now) }
     {

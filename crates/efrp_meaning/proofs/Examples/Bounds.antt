@@ -1,7 +1,7 @@
 -- The bounds of small programs, as numbers.
 use Rattle.std.specs.Prelude.{◌≡◌, codes, refl}
-use Rattle.efrp_meaning.specs.Bounds.{off, boot, body, words_bound, ram_bound, response, settle_bound}
-use Rattle.efrp_meaning.proofs.Examples.Programs.{counter, division, two_counters, three_priorities, motor, low, high, tick}
+use Rattle.efrp_meaning.specs.Bounds.{off, boot, body, scratch_bytes, table_words, words_bound, ram_bound, response, settle_bound}
+use Rattle.efrp_meaning.proofs.Examples.Programs.{counter, division, two_counters, three_priorities, motor, greatest_level, sampled_division, wave, low, high, tick}
 
 pub counter_off : off counter ≡ 108
 counter_off = refl
@@ -86,3 +86,45 @@ two_counters_settle = refl
 
 pub three_priorities_settle : settle_bound three_priorities ≡ 16910
 three_priorities_settle = refl
+
+-- An input weighs 6 and has a byte of scratch where an event needs it.
+pub greatest_level_body : body greatest_level tick ≡ 84
+greatest_level_body = refl
+
+pub greatest_level_scratch : scratch_bytes greatest_level tick ≡ 8
+greatest_level_scratch = refl
+
+pub greatest_level_words : words_bound greatest_level ≡ 360
+greatest_level_words = refl
+
+pub greatest_level_ram : ram_bound greatest_level ≡ 15
+greatest_level_ram = refl
+
+pub greatest_level_settle : settle_bound greatest_level ≡ 742
+greatest_level_settle = refl
+
+pub sampled_division_body_high : body sampled_division high ≡ 68
+sampled_division_body_high = refl
+
+pub sampled_division_scratch_high : scratch_bytes sampled_division high ≡ 6
+sampled_division_scratch_high = refl
+
+-- 820 as without the input, and 48 for the sum, 12 for the conversion, 6 for the name and 6 for the input.
+pub sampled_division_body_low : body sampled_division low ≡ 892
+sampled_division_body_low = refl
+
+-- A table has a word for each byte of an entry, and 16 more for each byte.
+pub wave_body : body wave tick ≡ 72
+wave_body = refl
+
+pub wave_tables : table_words wave ≡ 21
+wave_tables = refl
+
+pub wave_words : words_bound wave ≡ 369
+wave_words = refl
+
+pub wave_ram : ram_bound wave ≡ 12
+wave_ram = refl
+
+pub wave_settle : settle_bound wave ≡ 706
+wave_settle = refl

@@ -2,10 +2,11 @@
 use Rattle.std.specs.Prelude.{◌≡◌, ℕ, zero, suc, List, [], ◌∷◌, ◌++◌, codes, refl, map}
 use Rattle.frp_tree.specs.declared.syntax.Ty.TheVariants.{U8, U16}
 use Rattle.frp_tree.specs.declared.syntax.Lit.TheVariants as lit
+use Rattle.frp_tree.specs.declared.syntax.BinOp.TheVariants.{Add}
 use Rattle.frp_tree.specs.declared.syntax.Event.{Event}
 use Rattle.text_parts.specs.Digits.{hex2}
-use Rattle.frp_tree.specs.Tree.{Tree, Name, ClauseTree, DeclTree, ProgramTree}
-use Rattle.efrp_meaning.specs.Bounds.{levels, words_bound, ram_bound, settle_bound}
+use Rattle.frp_tree.specs.Tree.{Tree, Name, Binary, ClauseTree, DeclTree, ProgramTree}
+use Rattle.efrp_meaning.specs.Bounds.{levels, off, boot, body, words_bound, ram_bound, settle_bound}
 use Rattle.efrp_meaning.proofs.Examples.Programs.{event, clause, reactive, one_more, wide, small, on_go, go, divided_by}
 
 -- Eleven events, one on each source, with these priorities.
@@ -72,3 +73,64 @@ past_ram = on_go (wide_states 86 ++ reactive (codes "w") U8 (lit.Plain 0) (claus
 
 pub past_ram_bound : ram_bound past_ram ≡ 353
 past_ram_bound = refl
+
+-- Eight divisions on one event.
+abbrev nine_names : ProgramTree
+nine_names = record { events = event go (codes "T0") 1 ∷ []; setups = []; decls = reactive (codes "x") U16 (lit.Wide 7) (clause go (divisions 8) ∷ []) ∷ []; outputs = [] }
+
+pub nine_names_off : off nine_names ≡ 108
+nine_names_off = refl
+
+pub nine_names_body : body nine_names go ≡ 6508
+nine_names_body = refl
+
+pub nine_names_boot : boot nine_names ≡ 56
+nine_names_boot = refl
+
+pub nine_names_words : words_bound nine_names ≡ 6784
+nine_names_words = refl
+
+pub nine_names_ram : ram_bound nine_names ≡ 42
+nine_names_ram = refl
+
+pub nine_names_settle : settle_bound nine_names ≡ 20014
+nine_names_settle = refl
+
+-- A sum of two hundred literals.
+abbrev ones : ℕ → Tree
+ones zero = small 1
+ones (suc n) = Binary Add (ones n) (small 1)
+
+abbrev long_sum : ProgramTree
+long_sum = record { events = event go (codes "T0") 1 ∷ []; setups = []; decls = reactive (codes "s") U8 (lit.Plain 0) (clause go (ones 199) ∷ []) ∷ []; outputs = [] }
+
+pub long_sum_ram : ram_bound long_sum ≡ 406
+long_sum_ram = refl
+
+pub long_sum_words : words_bound long_sum ≡ 4250
+long_sum_words = refl
+
+pub long_sum_settle : settle_bound long_sum ≡ 12414
+long_sum_settle = refl
+
+-- Three events that divide 40 times each.
+abbrev three_events : List Event
+three_events = event (codes "A0") (codes "T0") 1 ∷ event (codes "A1") (codes "INT") 1 ∷ event (codes "A2") (codes "PSP") 1 ∷ []
+
+abbrev three_divide : ProgramTree
+three_divide = record { events = three_events; setups = []; decls = reactive (codes "x") U16 (lit.Wide 7) (for_each three_events (divisions 40)) ∷ []; outputs = [] }
+
+pub three_divide_off : off three_divide ≡ 140
+three_divide_off = refl
+
+pub three_divide_body : body three_divide (codes "A0") ≡ 32492
+three_divide_body = refl
+
+pub three_divide_words : words_bound three_divide ≡ 98064
+three_divide_words = refl
+
+pub three_divide_ram : ram_bound three_divide ≡ 170
+three_divide_ram = refl
+
+pub three_divide_settle : settle_bound three_divide ≡ 294166
+three_divide_settle = refl

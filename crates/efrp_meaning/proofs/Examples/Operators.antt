@@ -8,7 +8,7 @@ use Rattle.frp_tree.specs.declared.syntax.UnOp.TheVariants.{Com, Not}
 use Rattle.frp_tree.specs.declared.syntax.BinOp.{BinOp}
 use Rattle.frp_tree.specs.declared.syntax.BinOp.TheVariants.{Or, And, Eq, Ne, Lt, Le, Gt, Ge, BitOr, BitXor, BitAnd, Add, Sub, Mul, Div, Rem}
 use Rattle.frp_tree.specs.declared.syntax.Side.TheVariants.{Left, Right}
-use Rattle.frp_tree.specs.Tree.{Shift}
+use Rattle.frp_tree.specs.Tree.{Shift, Convert}
 use Rattle.efrp_meaning.specs.Types.{type_of}
 use Rattle.efrp_meaning.specs.Values.{modulus, literal_number, unary_value, binary_value, shift_value, if_value, convert_value}
 use Rattle.efrp_meaning.proofs.Examples.Programs.{small, wide, counter}
@@ -271,3 +271,29 @@ true_literal = refl
 
 pub false_literal : literal_number (lit.Truth false) ≡ Some 0
 false_literal = refl
+
+-- A number above 65,535 has no value and no type, whatever its suffix.
+pub no_literal_16 : literal_number (lit.Wide 65536) ≡ None
+no_literal_16 = refl
+
+pub type_of_literal_16 : type_of counter (wide 65535) ≡ Some U16
+type_of_literal_16 = refl
+
+pub no_type_of_literal_16 : type_of counter (wide 65536) ≡ None
+no_type_of_literal_16 = refl
+
+pub type_of_literal_8 : type_of counter (small 255) ≡ Some U8
+type_of_literal_8 = refl
+
+pub no_type_of_literal_8 : type_of counter (small 256) ≡ None
+no_type_of_literal_8 = refl
+
+-- No text spells a conversion to bool, and such a tree has no type. Nor has one that changes nothing.
+pub no_conversion_to_bool : type_of counter (Convert ty.Bool (small 1)) ≡ None
+no_conversion_to_bool = refl
+
+pub no_conversion_of_a_u8 : type_of counter (Convert U8 (small 1)) ≡ None
+no_conversion_of_a_u8 = refl
+
+pub no_conversion_of_a_u16 : type_of counter (Convert U16 (wide 1)) ≡ None
+no_conversion_of_a_u16 = refl

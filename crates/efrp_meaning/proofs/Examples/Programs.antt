@@ -8,7 +8,7 @@ use Rattle.frp_tree.specs.declared.syntax.BinOp.TheVariants.{Add, Sub, Mul, Lt, 
 use Rattle.frp_tree.specs.declared.syntax.Side.TheVariants.{Right}
 use Rattle.frp_tree.specs.declared.syntax.Event.{Event}
 use Rattle.frp_tree.specs.declared.syntax.Setup.{Setup}
-use Rattle.frp_tree.specs.Tree.{Tree, Const, Name, Binary, Shift, If, Convert, ClauseTree, Plain, Reactive, DeclTree, OutputTree, ProgramTree}
+use Rattle.frp_tree.specs.Tree.{Tree, Const, Name, Binary, Shift, If, Convert, Look, ClauseTree, Plain, Input, Table, Reactive, DeclTree, OutputTree, ProgramTree}
 
 abbrev pub event : List ℕ → List ℕ → ℕ → Event
 event its_name its_source its_priority = record { name = its_name; source = its_source; priority = its_priority }
@@ -27,6 +27,12 @@ reactive its_name its_type init clauses = record { name = its_name; ty = its_typ
 
 abbrev pub plain : List ℕ → Ty → Tree → DeclTree
 plain its_name its_type e = record { name = its_name; ty = its_type; behaviour = Plain e }
+
+abbrev pub input : List ℕ → List ℕ → DeclTree
+input its_name its_port = record { name = its_name; ty = U8; behaviour = Input its_port }
+
+abbrev pub table : List ℕ → Ty → List Lit → DeclTree
+table its_name its_type entries = record { name = its_name; ty = its_type; behaviour = Table entries }
 
 abbrev pub output : List ℕ → Tree → OutputTree
 output its_port e = record { port = its_port; expr = e }
@@ -179,4 +185,40 @@ motor = record {
       ∷ plain (codes "duty") Bool (Binary Lt (Name (codes "phase")) name_speed)
       ∷ reactive (codes "runtime") U16 (lit.Wide 0) (later_clause (codes "Slow") (one_more_wide (codes "runtime")) ∷ []) ∷ [];
   outputs = output (codes "PORTC") (If (Name (codes "duty")) (small 1) (small 0)) ∷ output (codes "PORTB") (Convert U8 (Shift Right (Name (codes "runtime")) 8)) ∷ [];
+}
+
+-- The greatest level so far of what a port reads.
+abbrev pub name_level : Tree
+name_level = Name (codes "level")
+
+abbrev pub name_top : Tree
+name_top = Name (codes "top")
+
+abbrev pub greatest_level : ProgramTree
+greatest_level = record {
+  events = event tick (codes "INT") 1 ∷ [];
+  setups = setup (codes "TRISC") 0 ∷ [];
+  decls = input (codes "level") (codes "PORTB") ∷ reactive (codes "top") U8 (lit.Plain 0) (clause tick (If (Binary Gt name_level name_top) name_level name_top) ∷ []) ∷ [];
+  outputs = output (codes "PORTC") name_top ∷ [];
+}
+
+-- The two priorities of the division, with an input that is added to the divisor.
+abbrev pub sampled_division : ProgramTree
+sampled_division = record {
+  events = event low (codes "TMR1") 1 ∷ event high (codes "INT") 2 ∷ [];
+  setups = [];
+  decls = input (codes "level") (codes "PORTB")
+      ∷ reactive (codes "d") U16 (lit.Wide 3) (clause high (Binary Add (Name (codes "d")) (wide 2)) ∷ [])
+      ∷ reactive (codes "q") U16 (lit.Wide 0) (clause low (Binary Div (wide 60000) (Binary Add (Name (codes "d")) (Convert U16 name_level))) ∷ []) ∷ [];
+  outputs = [];
+}
+
+-- A wave of five entries, of which every third one is put.
+abbrev pub wave : ProgramTree
+wave = record {
+  events = event tick (codes "INT") 1 ∷ [];
+  setups = setup (codes "TRISB") 0 ∷ [];
+  decls = table (codes "wave") U8 (lit.Plain 0 ∷ lit.Plain 10 ∷ lit.Plain 30 ∷ lit.Plain 60 ∷ lit.Plain 100 ∷ [])
+      ∷ reactive (codes "i") U8 (lit.Plain 0) (clause tick (Binary Add (Name (codes "i")) (small 3)) ∷ []) ∷ [];
+  outputs = output (codes "PORTB") (Look (codes "wave") (Name (codes "i"))) ∷ [];
 }
