@@ -17,18 +17,18 @@ use Rattle.counter_code.proofs.SettledFacts.{story-settled}
 use Rattle.counter_code.proofs.SoundFacts.{goes_on, writes_listed, shallow, setups_stand, flags_stay}
 
 pub always_keeps : (c : Counter) → IsCounter c → AlwaysKeeps (program_of c) (image_of c) (map_of c)
-always_keeps c fine start list n is_start =
-    let log : Log = log_of c start list in
-    let told = story c fine start list in
+always_keeps c fine start outers n is_start =
+    let log : Log = log_of c start outers in
+    let told = story c fine start outers in
     record {
       follows = story-follows c log fine told n;
-      setups = setups_stand c fine start list n;
-      flags = flags_stay c fine start list n;
+      setups = setups_stand c fine start outers n;
+      flags = flags_stay c fine start outers n;
       once = story-once c log fine told n;
       urgent = story-urgent c log fine told n;
-      goes_on = λ k h. goes_on c fine start list k;
-      listed = λ k h. writes_listed c fine start list k;
-      depth = λ k h. shallow c fine start list k;
+      goes_on = λ k h. goes_on c fine start outers k;
+      listed = λ k h. writes_listed c fine start outers k;
+      depth = λ k h. shallow c fine start outers k;
     }
 
 -- What doesn't arrive isn't latched.
@@ -37,6 +37,6 @@ unlatched true is_set never = absurd (never refl)
 unlatched false is_set never = refl
 
 pub always_settles : (c : Counter) → IsCounter c → AlwaysSettles (program_of c) (image_of c) (map_of c)
-always_settles c fine start list n is_start quiet =
-    story-settled c (log_of c start list) fine (story c fine start list) n quiet.0 (λ j late below.
-    unlatched ((outer_of list j).arrivals c.source) (flag c.source (chip_at c start list j).regs) (λ e. let early = quiet.1 j c.source below e in omega (arith, early, late)))
+always_settles c fine start outers n is_start quiet =
+    story-settled c (log_of c start outers) fine (story c fine start outers) n quiet.0 (λ j late below.
+    unlatched ((outer_of outers j).arrivals c.source) (flag c.source (chip_at c start outers j).regs) (λ e. let early = quiet.1 j c.source below e in omega (arith, early, late)))

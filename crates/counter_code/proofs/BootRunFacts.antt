@@ -84,26 +84,26 @@ boot_steps c = length (running_order (kind_of c.setup) (is_peripheral c.source))
 
 -- A run of a counter's image.
 abbrev pub chip_at : Counter → Start → List Outer → ℕ → Chip
-chip_at c start list n = after (program_of (image_of c)) (power_on start) (outer_of list) n
+chip_at c start outers n = after (program_of (image_of c)) (power_on start) (outer_of outers) n
 
 abbrev pub log_of : Counter → Start → List Outer → Log
-log_of c start list = run (image_of c) start list
+log_of c start outers = run (image_of c) start outers
 
 -- What holds after n steps where so much is done and control has come to this address.
-pub record BootAt (c : Counter) (start : Start) (list : List Outer) (target : Reg) (st : Done) (address n : ℕ) : Type 0 where
-  pub known : known c st (chip_at c start list n) ≡ chip_at c start list n
-  pub pc : (chip_at c start list n).pc ≡ address
-  pub stored : st.stored ≡ true → (chip_at c start list n).regs.plain state_byte ≡ bits c.init
-  pub stands : st.set_up ≡ true → Stands target (byte_of c.setup) (chip_at c start list n).regs
-  pub puts : port_writes (log_of c start list) n ≡ cond st.set_up (setup_puts (programs.program_of c)) []
+pub record BootAt (c : Counter) (start : Start) (outers : List Outer) (target : Reg) (st : Done) (address n : ℕ) : Type 0 where
+  pub known : known c st (chip_at c start outers n) ≡ chip_at c start outers n
+  pub pc : (chip_at c start outers n).pc ≡ address
+  pub stored : st.stored ≡ true → (chip_at c start outers n).regs.plain state_byte ≡ bits c.init
+  pub stands : st.set_up ≡ true → Stands target (byte_of c.setup) (chip_at c start outers n).regs
+  pub puts : port_writes (log_of c start outers) n ≡ cond st.set_up (setup_puts (programs.program_of c)) []
 
-module _ (c : Counter) (fine : IsCounter c) (start : Start) (list : List Outer) (target : Reg) (is_aimed : Aimed c.setup target) where
-  boot_step : (s : Spot) (st : Done) (address n : ℕ) → BootAt c start list target st address n
+module _ (c : Counter) (fine : IsCounter c) (start : Start) (outers : List Outer) (target : Reg) (is_aimed : Aimed c.setup target) where
+  boot_step : (s : Spot) (st : Done) (address n : ℕ) → BootAt c start outers target st address n
       → spot_at (standing_order (kind_of c.setup) (is_peripheral c.source)) address ≡ Some s → needs (kind_of c.setup) s st ≡ st → is_there c s ≡ true
-      → Boots c target s st (chip_at c start list n) (log_of c start list n)
+      → Boots c target s st (chip_at c start outers n) (log_of c start outers n)
   boot_step s st address n h stands need there =
-      let x : Chip = chip_at c start list n in
-      let outer : Outer = outer_of list n in
+      let x : Chip = chip_at c start outers n in
+      let outer : Outer = outer_of outers n in
       let word : ℕ = program_of (image_of c) x.pc in
       let i : Instr = instruction c s in
       let reg : Reg = register_of c target s in
@@ -145,13 +145,13 @@ module _ (c : Counter) (fine : IsCounter c) (start : Start) (list : List Outer) 
   put_so_far (At place) st there once = absurd cc
   put_so_far _ st there once = append-nil (cond st.set_up all_puts [])
 
-  boot_next : (s : Spot) (st : Done) (address n : ℕ) → BootAt c start list target st address n → Boots c target s st (chip_at c start list n) (log_of c start list n)
-      → is_there c s ≡ true → set_up_once s st ≡ false → BootAt c start list target (does s st) (address_after s address) (suc n)
+  boot_next : (s : Spot) (st : Done) (address n : ℕ) → BootAt c start outers target st address n → Boots c target s st (chip_at c start outers n) (log_of c start outers n)
+      → is_there c s ≡ true → set_up_once s st ≡ false → BootAt c start outers target (does s st) (address_after s address) (suc n)
   boot_next s st address n h b there once = record {
     known = b.done;
     pc = b.pc ∙ ap (address_after s) h.pc;
-    stored = keeps_state s st (chip_at c start list n).regs (chip_at c start list (suc n)).regs there b.cells h.stored;
-    stands = keeps_setup s st (chip_at c start list n).regs (chip_at c start list (suc n)).regs there b.cells h.stands;
+    stored = keeps_state s st (chip_at c start outers n).regs (chip_at c start outers (suc n)).regs there b.cells h.stored;
+    stands = keeps_setup s st (chip_at c start outers n).regs (chip_at c start outers (suc n)).regs there b.cells h.stands;
     puts = (λ i. h.puts i ++ put_by (b.port i)) ∙ put_so_far s st there once;
   }
 
@@ -160,15 +160,15 @@ module _ (c : Counter) (fine : IsCounter c) (start : Start) (list : List Outer) 
     pub spot : Spot
     pub st : Done
     pub address : ℕ
-    pub here : BootAt c start list target st address n
-    pub step : Boots c target spot st (chip_at c start list n) (log_of c start list n)
+    pub here : BootAt c start outers target st address n
+    pub step : Boots c target spot st (chip_at c start outers n) (log_of c start outers n)
     pub plain_address : is_special (kind_of c.setup) (is_peripheral c.source) address ≡ false
     pub there : is_there c spot ≡ true
 
   first_or_later : (n i : ℕ) → n ≤ i → (n ≡ i) ⊎ (suc n ≤ i)
   first_or_later n i h = elim (cases_lt n i) [ inl less ↦ inr (omega (arith, less)) | inr more ↦ inl (omega (arith, more, h)) ]
 
-  along : (spots : List Spot) (st : Done) (address n : ℕ) → Way (kind_of c.setup) (is_peripheral c.source) spots st address → BootAt c start list target st address n
+  along : (spots : List Spot) (st : Done) (address n : ℕ) → Way (kind_of c.setup) (is_peripheral c.source) spots st address → BootAt c start outers target st address n
       → (i : ℕ) → n ≤ i → i < n + length spots → Along i
   along [] st address n its h i from to = absurd (let to' : i < n + 0 = to in omega (arith, to', from))
   along (s ∷ spots) st address n its h i from to =
@@ -178,27 +178,27 @@ module _ (c : Counter) (fine : IsCounter c) (start : Start) (list : List Outer) 
         | inr later ↦ along spots (does s st) (address_after s address) (suc n) its.5 (boot_next s st address n h b its.3 its.4) i later (let to' : i < n + suc (length spots) = to in omega (arith, to'))
       ]
 
-  ends : (spots : List Spot) (st : Done) (address n : ℕ) → Way (kind_of c.setup) (is_peripheral c.source) spots st address → BootAt c start list target st address n
-      → BootAt c start list target (at_last (kind_of c.setup) (is_peripheral c.source)) (ready_at (kind_of c.setup) (is_peripheral c.source)) (n + length spots)
+  ends : (spots : List Spot) (st : Done) (address n : ℕ) → Way (kind_of c.setup) (is_peripheral c.source) spots st address → BootAt c start outers target st address n
+      → BootAt c start outers target (at_last (kind_of c.setup) (is_peripheral c.source)) (ready_at (kind_of c.setup) (is_peripheral c.source)) (n + length spots)
   ends [] st address n its h =
       let stay : n ≡ n + 0 = omega arith in
-      subst (λ m. BootAt c start list target (at_last (kind_of c.setup) (is_peripheral c.source)) (ready_at (kind_of c.setup) (is_peripheral c.source)) m) stay
-      (subst (λ a. BootAt c start list target (at_last (kind_of c.setup) (is_peripheral c.source)) a n) its.1 (subst (λ t. BootAt c start list target t address n) its.0 h))
+      subst (λ m. BootAt c start outers target (at_last (kind_of c.setup) (is_peripheral c.source)) (ready_at (kind_of c.setup) (is_peripheral c.source)) m) stay
+      (subst (λ a. BootAt c start outers target (at_last (kind_of c.setup) (is_peripheral c.source)) a n) its.1 (subst (λ t. BootAt c start outers target t address n) its.0 h))
   ends (s ∷ spots) st address n its h =
       let b = boot_step s st address n h its.0 its.1 its.3 in
       let on : suc n + length spots ≡ n + suc (length spots) = omega arith in
-      subst (λ m. BootAt c start list target (at_last (kind_of c.setup) (is_peripheral c.source)) (ready_at (kind_of c.setup) (is_peripheral c.source)) m) on
+      subst (λ m. BootAt c start outers target (at_last (kind_of c.setup) (is_peripheral c.source)) (ready_at (kind_of c.setup) (is_peripheral c.source)) m) on
       (ends spots (does s st) (address_after s address) (suc n) its.5 (boot_next s st address n h b its.3 its.4))
 
-  begins : BootAt c start list target at_first 0 0
+  begins : BootAt c start outers target at_first 0 0
   begins = record { known = refl; pc = refl; stored = λ e. absurd cc; stands = λ e. absurd cc; puts = refl }
 
   -- Each step of the boot, and the ready boundary.
   pub each_step : (n : ℕ) → n < boot_steps c → Along n
   each_step n h = along (running_order (kind_of c.setup) (is_peripheral c.source)) at_first 0 0 (way (kind_of c.setup) (is_peripheral c.source)) begins n (omega arith) (omega (arith, h))
 
-  pub at_ready : BootAt c start list target (at_last (kind_of c.setup) (is_peripheral c.source)) (ready_at (kind_of c.setup) (is_peripheral c.source)) (boot_steps c)
+  pub at_ready : BootAt c start outers target (at_last (kind_of c.setup) (is_peripheral c.source)) (ready_at (kind_of c.setup) (is_peripheral c.source)) (boot_steps c)
   at_ready =
       let count : 0 + boot_steps c ≡ boot_steps c = omega arith in
-      subst (λ m. BootAt c start list target (at_last (kind_of c.setup) (is_peripheral c.source)) (ready_at (kind_of c.setup) (is_peripheral c.source)) m) count
+      subst (λ m. BootAt c start outers target (at_last (kind_of c.setup) (is_peripheral c.source)) (ready_at (kind_of c.setup) (is_peripheral c.source)) m) count
       (ends (running_order (kind_of c.setup) (is_peripheral c.source)) at_first 0 0 (way (kind_of c.setup) (is_peripheral c.source)) begins)

@@ -22,9 +22,9 @@ use Rattle.counter_code.specs.Layout.{boot_rest, ready_address, words_from, imag
 abbrev AllFit : List Instr → Type 0
 AllFit code = AllByRecursion FieldsFit code
 
-fit_append : (front rest : List Instr) → AllFit front → AllFit rest → AllFit (front ++ rest)
+fit_append : (prefix rest : List Instr) → AllFit prefix → AllFit rest → AllFit (prefix ++ rest)
 fit_append [] rest all more = more
-fit_append (i ∷ front) rest all more = (all.0, fit_append front rest all.1 more)
+fit_append (i ∷ prefix) rest all more = (all.0, fit_append prefix rest all.1 more)
 
 fit_take : (n : ℕ) (code : List Instr) → AllFit code → AllFit (take n code)
 fit_take zero code all = tt

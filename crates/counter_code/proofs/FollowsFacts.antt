@@ -1,6 +1,7 @@
 -- A counter whose log tells its story follows its program, over the first n steps for every n.
 use Rattle.std.specs.Prelude.{ℕ, suc, ◌≤◌, ◌<◌, Bool, true, false, List, [], ◌∷◌, ◌++◌, Some, flat_map, map, take, ◌⊎◌}
 use Rattle.std.proofs.Common.{◌≡◌, refl, sym, ◌∙◌, ap, inl, inr, arith, append-nil}
+use Rattle.std.proofs.lemmas.Bool.{both_ways, false_from_ne_true}
 use Rattle.efrp_meaning.specs.Meaning.{Reaction, react, state_after, ports_after}
 use Rattle.pic_machine.specs.Run.{Log}
 use Rattle.counter_code.specs.declared.counters.Counter.{Counter}
@@ -42,11 +43,6 @@ named_is c false e h = absurd (let it : [] ≡ e ∷ [] = h in cc)
 busy : (here : Place) → is_committing here ≡ true → rests here ≡ false
 busy Rests h = absurd cc
 busy here h = refl
-
--- Nothing is taken there.
-untaken : (taken : Bool) (here : Place) → (taken ≡ true → rests here ≡ true) → rests here ≡ false → taken ≡ false
-untaken true here only is_busy = absurd (let no : ◌≡◌ {A = Bool} true false = sym (only refl) ∙ is_busy in cc)
-untaken false here only is_busy = refl
 
 -- An open is followed by its commit.
 commit_is_next : (takes : Bool) (here : Place) → is_opening here ≡ true → is_committing (next takes here) ≡ true
@@ -112,7 +108,7 @@ module _ (c : Counter) (log : Log) (story : Story c log) (k : ℕ) where
 
   undisturbed_at : (e : List ℕ) → Window (map_of c) log (past story.ready k) e → takes (log (past story.ready k)) ≡ false
   undisturbed_at e is_open =
-      untaken (takes (log (past story.ready k))) (story.place k) (λ taken. (story.takes_only k taken).0) (busy (story.place k) (window_at e is_open).0)
+      false_from_ne_true (takes (log (past story.ready k))) (λ taken. both_ways (rests (story.place k)) (busy (story.place k) (window_at e is_open).0) (story.takes_only k taken).0)
 
   closes_at : (e : List ℕ) → opened_by (map_of c) (log (past story.ready k)) ≡ e ∷ [] → committed_by (map_of c) (log (past story.ready (suc k))) ≡ e ∷ []
   closes_at e opens =

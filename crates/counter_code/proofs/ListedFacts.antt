@@ -1,7 +1,8 @@
 -- The map of a counter lists exactly the registers that the firmware writes.
-use Rattle.std.proofs.Common.{◌≡◌, ℕ, zero, suc, ◌+◌, ◌<◌, ◌≤◌, ◌||◌, ◌&&◌, nat_le, Bool, true, false, List, [], ◌∷◌, inl, inr, ⊎_elim, arith, cond, ap, ◌∙◌, refl, eq-eqb, ne_eqb}
+use Rattle.std.proofs.Common.{◌≡◌, ℕ, zero, suc, ◌+◌, ◌<◌, ◌≤◌, ◌||◌, ◌&&◌, nat_le, Bool, true, false, List, [], ◌∷◌, inl, inr, ⊎_elim, arith, cond, ap, sym, ◌∙◌, refl, eq-eqb, ne_eqb}
 use Rattle.std.specs.Prelude.{◌==◌}
 use Rattle.std.proofs.lemmas.Bool.{cases_lt, cases_eq, or_from, or_right}
+use Rattle.std.proofs.Math.Bool.{or_assoc, or-false}
 use Rattle.std.proofs.lemmas.Bool.Decides.{nat_tests}
 use Rattle.map_file.specs.declared.maps.Range.{Range}
 use Rattle.firmware_promises.specs.MapNames.{is_in, is_listed}
@@ -31,10 +32,6 @@ one_grown r high a room next = grind (arith, nat_tests)
 one_apart : (r : Range) (high a : ℕ) → is_in (r ∷ single high ∷ []) a ≡ (is_in (r ∷ []) a || a == high)
 one_apart r high a = grind (arith, nat_tests)
 
-or_later : (x y z : Bool) → (x || (y || z)) ≡ ((x || y) || z)
-or_later true y z = refl
-or_later false y z = refl
-
 one_more : (low : ℕ) (rs : List Range) (high a : ℕ) → RiseBelow low rs high → is_in (with_address rs high) a ≡ (is_in rs a || a == high)
 one_more low [] high a rise = one_address high a
 one_more low (r ∷ []) high a rise = elim (cases_eq (r.to + 1) high) [
@@ -43,7 +40,7 @@ one_more low (r ∷ []) high a rise = elim (cases_eq (r.to + 1) high) [
 ]
 one_more low (r ∷ s ∷ rs) high a rise =
     ap (λ b. nat_le r.from a && nat_le a r.to || b) (one_more (r.to + 2) (s ∷ rs) high a rise.3)
-    ∙ or_later (nat_le r.from a && nat_le a r.to) (is_in (s ∷ rs) a) (a == high)
+    ∙ sym (or_assoc (nat_le r.from a && nat_le a r.to) (is_in (s ∷ rs) a) (a == high))
 
 -- The ranges below a bound hold the addresses below it that pass the test.
 
@@ -57,16 +54,12 @@ at_bound n test =
       | false ↦ none_above 0 (ranges_below n test) n n rise (omega arith)
     ]
 
-or_none : (x y : Bool) → y ≡ false → (x || y) ≡ x
-or_none true y none = refl
-or_none false y none = none
-
 below_bound : (n a : ℕ) (test : ℕ → Bool) → a < n → is_in (ranges_below (suc n) test) a ≡ is_in (ranges_below n test) a
 unfolding ranges_below
 below_bound n a test small =
     let other : (a == n) ≡ false = ne_eqb a n (λ e. omega arith) in
     elim (test n) as (λ b. is_in (cond b (with_address (ranges_below n test) n) (ranges_below n test)) a ≡ is_in (ranges_below n test) a) [
-      | true ↦ (one_more 0 (ranges_below n test) n a (rise_below n test) ∙ or_none (is_in (ranges_below n test) a) (a == n) other)
+      | true ↦ (one_more 0 (ranges_below n test) n a (rise_below n test) ∙ ap (λ b. is_in (ranges_below n test) a || b) other ∙ or-false (is_in (ranges_below n test) a))
       | false ↦ refl
     ]
 

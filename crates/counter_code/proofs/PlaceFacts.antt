@@ -1,6 +1,8 @@
 -- What a step behind the boot is, seen through the counts of the promises.
 use Rattle.std.specs.Prelude.{ℕ, ◌+◌, ◌%◌, ◌<◌, Bool, true, false, not, ◌&&◌, ◌||◌, ◌==◌, Some}
 use Rattle.std.proofs.Common.{◌≡◌, refl, sym, ap, subst, ◌∙◌, arith}
+use Rattle.std.proofs.lemmas.Bool.{both_ways, or_right}
+use Rattle.std.proofs.Math.Bool.{and-not_self}
 use Rattle.pic_isa.specs.declared.sources.Source.{Source}
 use Rattle.pic_regs.specs.Bytes.{Byte, bits, num, one_if}
 use Rattle.pic_regs.specs.Map.{Reg}
@@ -62,12 +64,8 @@ commits_there c Rests = ready_commits_not c
 commits_there c _ = refl
 
 -- A flag that stays isn't cleared, and one that was set is.
-and_not : (b : Bool) → (b && not b) ≡ false
-and_not true = refl
-and_not false = refl
-
 pub not_cleared : (source : Source) (step : Step) → flag source step.after.regs ≡ flag source step.arrived.regs → clears source step ≡ false
-not_cleared source step same = ap (λ b. flag source step.arrived.regs && not b) same ∙ and_not (flag source step.arrived.regs)
+not_cleared source step same = ap (λ b. flag source step.arrived.regs && not b) same ∙ and-not_self (flag source step.arrived.regs)
 
 pub ledger_of : (program : ℕ → ℕ) (outer : Outer) (x : Chip) (source : Source) →
     flag source (boundary program outer x).after.regs ≡ flag source (boundary program outer x).arrived.regs
@@ -82,10 +80,6 @@ ledger_of program outer x source same =
 
 cleared : (source : Source) (step : Step) → flag source step.arrived.regs ≡ true → flag source step.after.regs ≡ false → clears source step ≡ true
 cleared source step was now = λ i. was i && not (now i)
-
-still_set : (arrives is_set : Bool) → is_set ≡ true → (arrives || is_set) ≡ true
-still_set true is_set e = refl
-still_set false is_set e = e
 
 grown : (c : Counter) → c.step < 256 → (x : Byte) → num (bits (num (bits c.step) + num x)) ≡ (num x + c.step) % 256
 grown c small x =
@@ -106,7 +100,7 @@ module _ (c : Counter) (fine : IsCounter c) (target : Reg) (is_aimed : Aimed c.s
 
   -- The flag: it is cleared by the instruction that clears it, and there alone.
   clears_of : (place : Place) (due : Bool) (x : Chip) (outer : Outer) → Stays c target place x → Runs c place due x (step_from outer x) → clears c.source (step_from outer x) ≡ is_clearing place
-  clears_of Clears due x outer h r = cleared c.source (step_from outer x) (flag-arrived c.source outer.arrivals x.regs ∙ still_set (outer.arrivals c.source) (flag c.source x.regs) (h.flagged refl)) r.flags
+  clears_of Clears due x outer h r = cleared c.source (step_from outer x) (flag-arrived c.source outer.arrivals x.regs ∙ or_right (outer.arrivals c.source) (flag c.source x.regs) (h.flagged refl)) r.flags
   clears_of _ due x outer h r = not_cleared c.source (step_from outer x) r.flags
 
   abbrev Ledger : Chip → Step → Type 0
@@ -116,7 +110,7 @@ module _ (c : Counter) (fine : IsCounter c) (target : Reg) (is_aimed : Aimed c.s
   ledger_at Clears due x outer h r =
       let step : Step = step_from outer x in
       let latched : one_if (flag c.source x.regs) + one_if (latches c.source step) ≡ one_if (flag c.source step.arrived.regs) = flag-latched c.source outer x in
-      let was : one_if (flag c.source step.arrived.regs) ≡ 1 = ap one_if (flag-arrived c.source outer.arrivals x.regs ∙ still_set (outer.arrivals c.source) (flag c.source x.regs) (h.flagged refl)) in
+      let was : one_if (flag c.source step.arrived.regs) ≡ 1 = ap one_if (flag-arrived c.source outer.arrivals x.regs ∙ or_right (outer.arrivals c.source) (flag c.source x.regs) (h.flagged refl)) in
       let now : one_if (flag c.source step.after.regs) ≡ 0 = ap one_if r.flags in
       let one : one_if (clears c.source step) ≡ 1 = ap one_if (clears_of Clears due x outer h r) in
       omega (arith, latched, was, now, one)
@@ -125,7 +119,7 @@ module _ (c : Counter) (fine : IsCounter c) (target : Reg) (is_aimed : Aimed c.s
   -- A step that runs the place's instruction, where nothing is taken.
   run_facts : (place : Place) (due : Bool) (x : Chip) (outer : Outer) → Stays c target place x → Runs c place due x (step_from outer x) → Facts c place x (step_from outer x)
   run_facts place due x outer h r = record {
-    takes_only = λ e. absurd (let no : ◌≡◌ {A = Bool} false true = sym r.taking ∙ e in cc);
+    takes_only = λ e. absurd (both_ways (counts.takes (step_from outer x)) r.taking e);
     opens_when = r.ran open_address ∙ ap (λ a. a == 7) h.pc ∙ opens_there c place;
     commits_when = r.ran commit_address ∙ ap (λ a. a == 8) h.pc ∙ commits_there c place;
     clears_when = clears_of place due x outer h r;
@@ -162,7 +156,7 @@ module _ (c : Counter) (fine : IsCounter c) (target : Reg) (is_aimed : Aimed c.s
   led_run place x outer h none_due request =
       let step : Step = step_from outer x in
       let r = runs_here c fine target is_aimed place x outer h none_due request in
-      let next_place = after_run c fine target is_aimed place x.due x step h r (λ e. absurd (let no : ◌≡◌ {A = Bool} false true = sym none_due ∙ e in cc)) in
+      let next_place = after_run c fine target is_aimed place x.due x step h r (λ e. absurd (both_ways x.due none_due e)) in
       (run_facts place x.due x outer h r, subst (λ b. Stays c target (next b place) step.after) (sym r.taking) next_place)
 
   -- Where control rests and the flag is set, an interrupt is taken, or the jump runs once more and then one is due.
@@ -188,7 +182,7 @@ module _ (c : Counter) (fine : IsCounter c) (target : Reg) (is_aimed : Aimed c.s
   led_resting : (x : Chip) (outer : Outer) → Stays c target Rests x → (due : Bool) → x.due ≡ due → Led Rests outer x
   led_resting x outer h true is_due =
       led_take x outer h (takes-due (program_of (image_of c)) outer x is_due)
-      (flag-arrived c.source outer.arrivals x.regs ∙ still_set (outer.arrivals c.source) (flag c.source x.regs) (h.flagged is_due))
+      (flag-arrived c.source outer.arrivals x.regs ∙ or_right (outer.arrivals c.source) (flag c.source x.regs) (h.flagged is_due))
   led_resting x outer h false none_due = led_asked x outer h none_due outer.late (flag c.source (with_outer outer x).regs) refl refl
 
   led_inside : (place : Place) (x : Chip) (outer : Outer) → Stays c target place x → rests place ≡ false → Led place outer x

@@ -7,10 +7,10 @@ use Rattle.map_file.specs.MapRules.{RangesRise}
 use Rattle.counter_code.specs.Maps.{with_address, ranges_below}
 
 -- Only the last range counts.
-pub with_last : (front : List Range) (r : Range) (address : ℕ) → with_address (front ++ r ∷ []) address ≡ front ++ with_address (r ∷ []) address
+pub with_last : (prefix : List Range) (r : Range) (address : ℕ) → with_address (prefix ++ r ∷ []) address ≡ prefix ++ with_address (r ∷ []) address
 with_last [] r address = refl
 with_last (s ∷ []) r address = refl
-with_last (s ∷ t ∷ front) r address = ap (λ rs. s ∷ rs) (with_last (t ∷ front) r address)
+with_last (s ∷ t ∷ prefix) r address = ap (λ rs. s ∷ rs) (with_last (t ∷ prefix) r address)
 
 pub ranges_at : (n : ℕ) (test : ℕ → Bool) → ranges_below (n + 1) test ≡ cond (test n) (with_address (ranges_below n test) n) (ranges_below n test)
 unfolding ranges_below
@@ -20,14 +20,14 @@ abbrev single : ℕ → Range
 single address = record { from = address; to = address }
 
 -- The last range grows where the address follows it.
-pub grown : (front : List Range) (r : Range) (address : ℕ) → r.to + 1 ≡ address → with_address (front ++ r ∷ []) address ≡ front ++ record { from = r.from; to = address } ∷ []
-grown front r address follows = let same : (r.to + 1 == address) ≡ true = eq-eqb (r.to + 1) address follows in with_last front r address ∙ ap (λ b. front ++ cond b (record { from = r.from; to = address } ∷ []) (r ∷ single address ∷ [])) same
+pub grown : (prefix : List Range) (r : Range) (address : ℕ) → r.to + 1 ≡ address → with_address (prefix ++ r ∷ []) address ≡ prefix ++ record { from = r.from; to = address } ∷ []
+grown prefix r address follows = let same : (r.to + 1 == address) ≡ true = eq-eqb (r.to + 1) address follows in with_last prefix r address ∙ ap (λ b. prefix ++ cond b (record { from = r.from; to = address } ∷ []) (r ∷ single address ∷ [])) same
 
 -- It stays where the address doesn't.
-pub apart : (front : List Range) (r : Range) (address : ℕ) → r.to + 1 ≢ address → with_address (front ++ r ∷ []) address ≡ (front ++ r ∷ []) ++ single address ∷ []
-apart front r address differs =
+pub apart : (prefix : List Range) (r : Range) (address : ℕ) → r.to + 1 ≢ address → with_address (prefix ++ r ∷ []) address ≡ (prefix ++ r ∷ []) ++ single address ∷ []
+apart prefix r address differs =
     let other : (r.to + 1 == address) ≡ false = ne_eqb (r.to + 1) address differs in
-    with_last front r address ∙ ap (λ b. front ++ cond b (record { from = r.from; to = address } ∷ []) (r ∷ single address ∷ [])) other ∙ sym (append_assoc front (r ∷ []) (single address ∷ []))
+    with_last prefix r address ∙ ap (λ b. prefix ++ cond b (record { from = r.from; to = address } ∷ []) (r ∷ single address ∷ [])) other ∙ sym (append_assoc prefix (r ∷ []) (single address ∷ []))
 
 -- The ranges rise below a bound: the first from low on, at least one address between two, and the last ends below high.
 abbrev pub RiseBelow : ℕ → List Range → ℕ → Type 0

@@ -6,7 +6,8 @@ use Rattle.std.proofs.lemmas.List.Sums.{fold-append}
 use Rattle.std.proofs.lemmas.Grind.{flat_map-append}
 use Rattle.efrp_meaning.specs.Meaning.{State, Occurrence, Reaction, react, initial_state, serial, add_reaction, and_then_on, state_after, ports_after}
 use Rattle.efrp_meaning.proofs.FirstFormLaws.{one_counter-initial, one_counter-react}
-use Rattle.pic_isa.specs.Names.{port_at, name_of_port}
+use Rattle.pic_isa.specs.Names.{name_of_port}
+use Rattle.pic_isa.proofs.UniqueNameLaws.{port_called_back}
 use Rattle.pic_machine.specs.declared.steps.PortWrite.{PortWrite}
 use Rattle.counter_code.specs.declared.counters.Counter.{Counter}
 use Rattle.counter_code.specs.Counters.{IsCounter, program_of}
@@ -47,14 +48,6 @@ writes c (suc n) = writes c n ++ write_of c (value c (suc n)) ∷ []
 
 abbrev pub reaction_from : Counter → ℕ → Reaction
 reaction_from c v = record { state = (v + c.step) % 256 ∷ []; ports = (v + c.step) % 256 ∷ [] }
-
-port_called_back : (p : ℕ) → p < 5 → port_at (name_of_port p) ≡ Some p
-port_called_back zero h = refl
-port_called_back (suc zero) h = refl
-port_called_back (suc (suc zero)) h = refl
-port_called_back (suc (suc (suc zero))) h = refl
-port_called_back (suc (suc (suc (suc zero)))) h = refl
-port_called_back (suc (suc (suc (suc (suc n))))) h = absurd (omega arith)
 
 module _ (c : Counter) (is : IsCounter c) where
   begins : initial_state (program_of c) ≡ Some (c.init ∷ [])

@@ -1,8 +1,10 @@
 -- A counter whose log tells its story has settled once no latch has come for long enough.
 use Rattle.std.specs.Prelude.{ℕ, suc, ◌+◌, ◌-◌, ◌*◌, ◌≤◌, ◌<◌, Bool, true, false, ◌⊎◌}
 use Rattle.std.proofs.Common.{◌≡◌, refl, ap, subst, arith, inl, inr}
+use Rattle.std.proofs.lemmas.Bool.{both_ways}
 use Rattle.pic_regs.specs.Bytes.{one_if}
 use Rattle.pic_regs.specs.Registers.{flag}
+use Rattle.pic_regs.proofs.ByteLaws.{one_if-small}
 use Rattle.pic_machine.specs.Run.{Log}
 use Rattle.counter_code.specs.declared.counters.Counter.{Counter}
 use Rattle.counter_code.specs.Counters.{IsCounter}
@@ -35,12 +37,8 @@ one_less true soon Rests before after small clearing taking in_time = omega (ari
 one_less false soon Rests before after small clearing taking in_time = omega (arith, clearing, in_time refl)
 one_less takes soon here before after small clearing taking in_time = omega (arith, clearing)
 
-one_if_small : (b : Bool) → one_if b ≤ 1
-one_if_small true = omega arith
-one_if_small false = omega arith
-
 none_remain : (here : Place) (set : ℕ) (takes : Bool) → remaining here set takes ≡ 0 → (here ≡ Rests) × (set ≡ 0)
-none_remain Rests set takes h = (refl, omega (arith, h, one_if_small takes))
+none_remain Rests set takes h = (refl, omega (arith, h, one_if-small takes))
 none_remain here set takes h = absurd (omega arith)
 
 one_if_none : (b : Bool) → one_if b ≡ 0 → b ≡ false
@@ -50,14 +48,14 @@ one_if_none false h = refl
 -- One where it holds, by another that holds then, and by one of two that do.
 one_if_less : (b d : Bool) → (b ≡ true → d ≡ true) → one_if b ≤ one_if d
 one_if_less true true h = omega arith
-one_if_less true false h = absurd (let not_so = h refl in cc)
+one_if_less true false h = absurd (both_ways false refl (h refl))
 one_if_less false d h = omega arith
 
 one_if_sum : (b d e : Bool) → (b ≡ true → (d ≡ true) ⊎ (e ≡ true)) → one_if b ≤ one_if d + one_if e
 one_if_sum false d e h = omega arith
 one_if_sum true true e h = omega arith
 one_if_sum true false true h = omega arith
-one_if_sum true false false h = absurd (elim (h refl) [ inl e ↦ (let not_so : ◌≡◌ {A = Bool} false true = e in cc) | inr e ↦ (let not_so : ◌≡◌ {A = Bool} false true = e in cc) ])
+one_if_sum true false false h = absurd (elim (h refl) [ inl e ↦ both_ways false refl e | inr e ↦ both_ways false refl e ])
 
 module _ (c : Counter) (log : Log) (story : Story c log) where
   -- Whether the event waits, as a number, and how many steps remain, k steps past the ready boundary.
@@ -89,7 +87,7 @@ module _ (c : Counter) (log : Log) (story : Story c log) where
   rank_falls k none =
       let moved = ap (λ here. remaining here (waiting (suc k)) (takes (log (past story.ready (suc k))))) (story.goes k) in
       let less = one_less (takes (log (past story.ready k))) (takes (log (past story.ready (suc k)))) (story.place k) (waiting k) (waiting (suc k))
-      (one_if_small (flag c.source (chip_after log (past story.ready k)).regs)) (clearing_is k none) (λ is_resting. taking_is k none) (in_time k none) in
+      (one_if-small (flag c.source (chip_after log (past story.ready k)).regs)) (clearing_is k none) (λ is_resting. taking_is k none) (in_time k none) in
       omega (arith, moved, less)
 
   -- Nothing remains: control rests and no event waits.
@@ -107,7 +105,7 @@ module _ (c : Counter) (log : Log) (story : Story c log) where
       let it = steps_past story.ready n (omega (arith, story.ready_is_soon)) in
       let falls = falls_for_good rank k it.0 (omega (arith, story.ready_is_soon, it.1, past_is story.ready it.0))
       (λ j from below. rank_falls j (quiet (past story.ready j) (omega (arith, past_is story.ready j)) (omega (arith, it.1, past_is story.ready it.0, past_is story.ready j)))) in
-      let small = remaining_is_small (story.place k) (waiting k) (takes (log (past story.ready k))) (one_if_small (flag c.source (chip_after log (past story.ready k)).regs)) in
+      let small = remaining_is_small (story.place k) (waiting k) (takes (log (past story.ready k))) (one_if-small (flag c.source (chip_after log (past story.ready k)).regs)) in
       subst (Settled (map_of c) log) it.1 (settled_at it.0 (omega (arith, falls, small, it.1, past_is story.ready it.0, story.ready_is_soon)))
 
 -- No latch has come for as many steps as the map says.

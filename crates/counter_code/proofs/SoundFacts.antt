@@ -65,9 +65,9 @@ at_most_1 : (place : Place) → depth_at place ≤ 1
 at_most_1 Rests = lit≤ tt
 at_most_1 _ = lit≤ tt
 
-module _ (c : Counter) (fine : IsCounter c) (start : Start) (list : List Outer) where
+module _ (c : Counter) (fine : IsCounter c) (start : Start) (outers : List Outer) where
   abbrev the_log : Log
-  the_log = log_of c start list
+  the_log = log_of c start outers
 
   abbrev target : Reg
   target = (aimed c.setup fine.setup).0
@@ -75,43 +75,43 @@ module _ (c : Counter) (fine : IsCounter c) (start : Start) (list : List Outer) 
   abbrev is_aimed : Aimed c.setup target
   is_aimed = (aimed c.setup fine.setup).1
 
-  way : (n : ℕ) → n < boot_steps c → Along c fine start list target is_aimed n
-  way n h = each_step c fine start list target is_aimed n h
+  way : (n : ℕ) → n < boot_steps c → Along c fine start outers target is_aimed n
+  way n h = each_step c fine start outers target is_aimed n h
 
-  same : (n : ℕ) → chip_after the_log n ≡ chip_at c start list n
-  same n = chip_after_is_of_the_run (program_of (image_of c)) (power_on start) (outer_of list) n
+  same : (n : ℕ) → chip_after the_log n ≡ chip_at c start outers n
+  same n = chip_after_is_of_the_run (program_of (image_of c)) (power_on start) (outer_of outers) n
 
   pub goes_on : (k : ℕ) → is_stop (the_log k).did ≡ false
-  goes_on = each_moment (boot_steps c) (λ n. is_stop (the_log n).did ≡ false) (λ n less. (way n less).step.stop) (λ k. (facts c fine start list k).goes_on)
+  goes_on = each_moment (boot_steps c) (λ n. is_stop (the_log n).did ≡ false) (λ n less. (way n less).step.stop) (λ k. (facts c fine start outers k).goes_on)
 
   pub writes_listed : (k : ℕ) → Listed c (the_log k).wrote
   writes_listed = each_moment (boot_steps c) (λ n. Listed c (the_log n).wrote)
       (λ n less. subst (Listed c) (sym (way n less).step.wrote) (boot_listed c target (way n less).spot is_aimed (way n less).there))
-      (λ k. (facts c fine start list k).listed)
+      (λ k. (facts c fine start outers k).listed)
 
-  shallow_by : (n : ℕ) (d : ℕ) → d ≡ (chip_at c start list n).depth → d ≤ 1 → (chip_after the_log n).depth ≤ 1
+  shallow_by : (n : ℕ) (d : ℕ) → d ≡ (chip_at c start outers n).depth → d ≤ 1 → (chip_after the_log n).depth ≤ 1
   shallow_by n d e small = let its : d ≡ (chip_after the_log n).depth = e ∙ ap (λ (y : Chip). y.depth) (sym (same n)) in omega (arith, its, small)
 
   pub shallow : (k : ℕ) → (chip_after the_log k).depth ≤ 1
   shallow = each_moment (boot_steps c) (λ n. (chip_after the_log n).depth ≤ 1)
       (λ n less. shallow_by n 0 (ap (λ (y : Chip). y.depth) (way n less).here.known) (lit≤ tt))
-      (λ k. shallow_by (past (boot_steps c) k) (depth_at (place_in the_log (boot_steps c) k)) (ap (λ (y : Chip). y.depth) (stays c fine start list k).held) (at_most_1 (place_in the_log (boot_steps c) k)))
+      (λ k. shallow_by (past (boot_steps c) k) (depth_at (place_in the_log (boot_steps c) k)) (ap (λ (y : Chip). y.depth) (stays c fine start outers k).held) (at_most_1 (place_in the_log (boot_steps c) k)))
 
   setup_stands : (k a byte : ℕ) → boot_steps c ≤ k → within 5 9 a ≡ false → last_setup (setups_of c.setup) a ≡ Some byte → byte_at (chip_after the_log k).regs a ≡ num (existing (reg_at a) (bits byte))
   setup_stands k a byte later other e =
-      let stood : Stands target (byte_of c.setup) (chip_at c start list k).regs = from_ready (boot_steps c) (λ n. Stands target (byte_of c.setup) (chip_at c start list n).regs) (λ j. (stays c fine start list j).stands) k later in
-      ap (λ y. byte_at y.regs a) (same k) ∙ setup_reads c.setup target (chip_at c start list k).regs a byte fine.setup is_aimed stood other e
+      let stood : Stands target (byte_of c.setup) (chip_at c start outers k).regs = from_ready (boot_steps c) (λ n. Stands target (byte_of c.setup) (chip_at c start outers n).regs) (λ j. (stays c fine start outers j).stands) k later in
+      ap (λ y. byte_at y.regs a) (same k) ∙ setup_reads c.setup target (chip_at c start outers k).regs a byte fine.setup is_aimed stood other e
 
   pub setups_stand : (n : ℕ) → SetupsStand (programs.program_of c) (map_of c) the_log n
   setups_stand n r k a byte is_it from to other e =
-      let early : boot_steps c ≤ r = rw (← story_is_ready c fine start list) (ready_from c the_log (story c fine start list) n r is_it) in
+      let early : boot_steps c ≤ r = rw (← story_is_ready c fine start outers) (ready_from c the_log (story c fine start outers) n r is_it) in
       setup_stands k a byte (omega (arith, early, from)) other e
 
   flags_by : (n k : ℕ) (source : Source) → k < n → BeforeReady (map_of c) the_log n k → (k < boot_steps c) ⊎ (boot_steps c ≤ k) → clears source (the_log k) ≡ false
   flags_by n k source h before (inl less) = not_cleared source (the_log k) ((way k less).step.unchanged source)
   flags_by n k source h before (inr more) =
-      let its : Story c the_log = story c fine start list in
-      let is : its.ready ≡ boot_steps c = story_is_ready c fine start list in
+      let its : Story c the_log = story c fine start outers in
+      let is : its.ready ≡ boot_steps c = story_is_ready c fine start outers in
       absurd (before its.ready (omega (arith, is, more)) (shown_at c the_log its n (omega (arith, is, more, h))))
 
   pub flags_stay : (n : ℕ) → FlagsStay (map_of c) the_log n

@@ -130,17 +130,14 @@ tris_over (suc (suc (suc zero))) old x h = refl
 tris_over (suc (suc (suc (suc zero)))) old x h = refl
 tris_over (suc (suc (suc (suc (suc n))))) old x h = absurd (omega arith)
 
-itself : (a : ℕ) → (a == a) ≡ true
-itself a = eq-eqb a a refl
-
 pub stored_stands : (name : List ℕ) (a : ℕ) (target : Reg) (byte : ℕ) (old new : Registers) → Suits name a target → Stores target byte old new → Stands target byte new
 stored_stands name a (Tris n) byte old new suits stores =
     ap (λ (memory : ℕ → Byte). tris_bits n (memory n)) stores.1
-    ∙ ap (λ b. tris_bits n (cond b (over_tris n (old.tris n) (bits byte)) (old.tris n))) (itself n)
-    ∙ ap (λ b. tris_bits n (cond b (over_tris n (old.tris n) (bits byte)) (old.tris n))) (sym (itself n))
+    ∙ ap (λ b. tris_bits n (cond b (over_tris n (old.tris n) (bits byte)) (old.tris n))) (eq-eqb n n refl)
+    ∙ ap (λ b. tris_bits n (cond b (over_tris n (old.tris n) (bits byte)) (old.tris n))) (sym (eq-eqb n n refl))
     ∙ tris_over n (old.tris n) (bits byte) suits.3
 stored_stands name a (Plain b) byte old new suits stores =
-    ap (λ (memory : ℕ → Byte). memory b) stores.0 ∙ ap (λ t. cond t (bits byte) (old.plain b)) (itself b)
+    ap (λ (memory : ℕ → Byte). memory b) stores.0 ∙ ap (λ t. cond t (bits byte) (old.plain b)) (eq-eqb b b refl)
 stored_stands name a (Port n) byte old new suits stores = tt
 stored_stands name a _ byte old new suits stores = absurd suits
 

@@ -1,7 +1,7 @@
 -- Every run of a counter's image tells the story of the counter.
 use Rattle.std.specs.Prelude.{ℕ, zero, suc, ◌+◌, ◌%◌, ◌<◌, ◌≤◌, Bool, true, false, ◌||◌, ◌==◌, cond, List, [], length, take, Option, Some, None}
 use Rattle.std.proofs.Common.{◌≡◌, refl, sym, ap, subst, ◌∙◌, arith, lit≤, ◌⊎◌, inl, inr}
-use Rattle.std.proofs.lemmas.Bool.{cases_lt, eqb-false}
+use Rattle.std.proofs.lemmas.Bool.{cases_lt, eqb-false, both_ways, or_parts}
 use Rattle.std.proofs.Math.Seq.{take-length}
 use Rattle.pic_isa.specs.declared.sources.Source.{Source}
 use Rattle.pic_isa.specs.declared.sources.Source.TheVariants.{T0}
@@ -46,10 +46,6 @@ abbrev pub place_in : Log → ℕ → ℕ → Place
 place_in log ready zero = Rests
 place_in log ready (suc k) = next (takes (log (past ready k))) (place_in log ready k)
 
-neither : (p q : Bool) → (p || q) ≡ false → (p ≡ false) × (q ≡ false)
-neither false q e = (refl, e)
-neither true q e = absurd cc
-
 there_is_a_setup : (setup : Option SetupAt) (target : Reg) (r : Registers) → Aimed setup target → (has_setup (kind_of setup) ≡ true → Stands target (byte_of setup) r) → Stands target (byte_of setup) r
 there_is_a_setup None target r is_aimed stands = subst (λ t. Stands t 0 r) (sym is_aimed) tt
 there_is_a_setup (Some s) target r is_aimed stands = stands (elim (in_bank_1 s.address) as (λ b. has_setup (cond b HighSetup LowSetup) ≡ true) [ true ↦ refl | false ↦ refl ])
@@ -63,20 +59,20 @@ all_put (Some s) c =
       | false ↦ refl
     ]
 
-front : (puts : List PortWrite) (is_put : Bool) → (i : ℕ) × (cond is_put puts [] ≡ take i puts)
-front puts false = (0, refl)
-front puts true = (length puts, sym (take-length puts))
+prefix : (puts : List PortWrite) (is_put : Bool) → (i : ℕ) × (cond is_put puts [] ≡ take i puts)
+prefix puts false = (0, refl)
+prefix puts true = (length puts, sym (take-length puts))
 
 flag_first : (source : Source) (start : Start) → flag source (registers_on start) ≡ false
 flag_first T0 start = refl
 flag_first _ start = refl
 
-module _ (c : Counter) (fine : IsCounter c) (start : Start) (list : List Outer) where
+module _ (c : Counter) (fine : IsCounter c) (start : Start) (outers : List Outer) where
   abbrev x : ℕ → Chip
-  x n = chip_at c start list n
+  x n = chip_at c start outers n
 
   abbrev the_log : Log
-  the_log = log_of c start list
+  the_log = log_of c start outers
 
   abbrev ready : ℕ
   ready = boot_steps c
@@ -92,13 +88,13 @@ module _ (c : Counter) (fine : IsCounter c) (start : Start) (list : List Outer) 
 
   -- The chip after n steps of the log is that of the run.
   same : (n : ℕ) → chip_after the_log n ≡ x n
-  same n = chip_after_is_of_the_run (program_of (image_of c)) (power_on start) (outer_of list) n
+  same n = chip_after_is_of_the_run (program_of (image_of c)) (power_on start) (outer_of outers) n
 
-  way : (n : ℕ) → n < ready → Along c fine start list target is_aimed n
-  way n h = each_step c fine start list target is_aimed n h
+  way : (n : ℕ) → n < ready → Along c fine start outers target is_aimed n
+  way n h = each_step c fine start outers target is_aimed n h
 
-  end : BootAt c start list target (at_last (kind_of c.setup) (is_peripheral c.source)) (ready_at (kind_of c.setup) (is_peripheral c.source)) ready
-  end = at_ready c fine start list target is_aimed
+  end : BootAt c start outers target (at_last (kind_of c.setup) (is_peripheral c.source)) (ready_at (kind_of c.setup) (is_peripheral c.source)) ready
+  end = at_ready c fine start outers target is_aimed
 
   -- What holds from the ready boundary on.
   pub stays : (k : ℕ) → Stays c target (place k) (x (past ready k))
@@ -106,22 +102,22 @@ module _ (c : Counter) (fine : IsCounter c) (start : Start) (list : List Outer) 
     held = subst (λ y. held c Rests y ≡ y) end.known (all_done c.source c (kind_of c.setup) (x ready));
     pc = end.pc ∙ sym (ready_is c);
     stack = λ e. absurd cc;
-    flagged = λ e. absurd (let no : ◌≡◌ {A = Bool} false true = ap (λ (y : Chip). y.due) end.known ∙ e in cc);
+    flagged = λ e. absurd (both_ways (x ready).due (sym (ap (λ (y : Chip). y.due) end.known)) e);
     w = tt;
     stands = there_is_a_setup c.setup target (x ready).regs is_aimed end.stands;
   }
-  stays (suc k) = (led c fine target is_aimed (place k) (x (past ready k)) (outer_of list (past ready k)) (stays k)).1
+  stays (suc k) = (led c fine target is_aimed (place k) (x (past ready k)) (outer_of outers (past ready k)) (stays k)).1
 
   pub facts : (k : ℕ) → Facts c (place k) (x (past ready k)) (the_log (past ready k))
-  facts k = (led c fine target is_aimed (place k) (x (past ready k)) (outer_of list (past ready k)) (stays k)).0
+  facts k = (led c fine target is_aimed (place k) (x (past ready k)) (outer_of outers (past ready k)) (stays k)).0
 
   -- In the boot.
   plain : (n : ℕ) (h : n < ready) → (((way n h).address == ready_at (kind_of c.setup) (is_peripheral c.source)) ≡ false) × (((way n h).address == 7) ≡ false) × (((way n h).address == 8) ≡ false)
   plain n h =
       let w = way n h in
-      let outer = neither (w.address == ready_at (kind_of c.setup) (is_peripheral c.source) || w.address == 7) (w.address == 8) w.plain_address in
-      let inner = neither (w.address == ready_at (kind_of c.setup) (is_peripheral c.source)) (w.address == 7) outer.0 in
-      (inner.0, inner.1, outer.1)
+      let parts = or_parts (w.address == ready_at (kind_of c.setup) (is_peripheral c.source) || w.address == 7) (w.address == 8) w.plain_address in
+      let first_parts = or_parts (w.address == ready_at (kind_of c.setup) (is_peripheral c.source)) (w.address == 7) parts.0 in
+      (first_parts.0, first_parts.1, parts.1)
 
   not_there : (n : ℕ) → n < ready → (chip_after the_log n).pc ≡ ready_address c → ⊥
   not_there n h e =
@@ -131,10 +127,10 @@ module _ (c : Counter) (fine : IsCounter c) (start : Start) (list : List Outer) 
   boot_puts_by : (n : ℕ) → n ≤ ready → (n < ready) ⊎ (ready ≤ n) → (i : ℕ) × (port_writes the_log n ≡ take i (setup_puts (programs.program_of c)))
   boot_puts_by n h (inl less) =
       let w = way n less in
-      let some = front (setup_puts (programs.program_of c)) w.st.set_up in
+      let some = prefix (setup_puts (programs.program_of c)) w.st.set_up in
       (some.0, w.here.puts ∙ some.1)
   boot_puts_by n h (inr more) =
-      let some = front (setup_puts (programs.program_of c)) (has_setup (kind_of c.setup)) in
+      let some = prefix (setup_puts (programs.program_of c)) (has_setup (kind_of c.setup)) in
       let at_end : ready ≡ n = omega (arith, h, more) in
       subst (λ m. (i : ℕ) × (port_writes the_log m ≡ take i (setup_puts (programs.program_of c)))) at_end (some.0, end.puts ∙ some.1)
 
@@ -150,7 +146,7 @@ module _ (c : Counter) (fine : IsCounter c) (start : Start) (list : List Outer) 
 
   ledger : (n : ℕ) → Ledger n
   ledger = each_moment ready Ledger
-      (λ n less. ledger_of_run n (ledger_of (program_of (image_of c)) (outer_of list n) (x n) c.source ((way n less).step.unchanged c.source)))
+      (λ n less. ledger_of_run n (ledger_of (program_of (image_of c)) (outer_of outers n) (x n) c.source ((way n less).step.unchanged c.source)))
       (λ k. ledger_of_run (past ready k) (facts k).ledger)
 
   pc_is : (place : Place) (y : Chip) → Stays c target place y → rests place ≡ true → y.pc ≡ ready_address c
@@ -175,7 +171,7 @@ module _ (c : Counter) (fine : IsCounter c) (start : Start) (list : List Outer) 
     goes = λ k. refl;
     pc_is_ready = λ k e. ap (λ (y : Chip). y.pc) (same (past ready k)) ∙ pc_is (place k) (x (past ready k)) (stays k) e;
     takes_only = λ k. (facts k).takes_only;
-    takes_in_time = λ k is_resting. heard_is_taken (program_of (image_of c)) (power_on start) (outer_of list) (event_in_map c) (past ready k) ((facts k).hears_when ∙ is_resting);
+    takes_in_time = λ k is_resting. heard_is_taken (program_of (image_of c)) (power_on start) (outer_of outers) (event_in_map c) (past ready k) ((facts k).hears_when ∙ is_resting);
     opens_when = λ k. (facts k).opens_when;
     commits_when = λ k. (facts k).commits_when;
     clears_when = λ k. (facts k).clears_when;
@@ -183,7 +179,7 @@ module _ (c : Counter) (fine : IsCounter c) (start : Start) (list : List Outer) 
     hears_when = λ k. (facts k).hears_when;
     values = λ k. (facts k).values ∙ ap (λ y. value_after c (place k) (byte_at y.regs state_byte)) (sym (same (past ready k)));
     puts = λ k. (facts k).puts ∙ ap (λ y. puts_at c (place k) (byte_at y.regs state_byte)) (sym (same (past ready k)));
-    arrival = λ n. ap (λ (y : Chip). one_if (flag c.source y.regs) + one_if (latches c.source (the_log n))) (same n) ∙ flag-latched c.source (outer_of list n) (x n);
+    arrival = λ n. ap (λ (y : Chip). one_if (flag c.source y.regs) + one_if (latches c.source (the_log n))) (same n) ∙ flag-latched c.source (outer_of outers n) (x n);
     flag_at_first = flag_first c.source start;
     ledger = ledger;
   }

@@ -1,6 +1,7 @@
 -- A counter whose log tells its story is urgent, over the first n steps for every n.
 use Rattle.std.specs.Prelude.{ℕ, suc, ◌+◌, ◌≤◌, ◌<◌, Bool, true, false, not, ◌&&◌, ◌||◌, ◌⊎◌}
 use Rattle.std.proofs.Common.{◌≡◌, refl, sym, ◌∙◌, ap, ap₂, subst, add-one, arith}
+use Rattle.std.proofs.lemmas.Bool.{both_ways}
 use Rattle.pic_regs.specs.Registers.{flag, enable}
 use Rattle.pic_machine.specs.Boundary.{Step}
 use Rattle.pic_machine.specs.Run.{Log}
@@ -75,7 +76,7 @@ module _ (c : Counter) (log : Log) (story : Story c log) where
   open_work n k h asked = each_moment story.ready (λ k. asks_for_opening (map_of c) (log k) ≡ true → (j : ℕ) × (k < j) × (j ≤ k + 16) × (gives_opening (map_of c) (log j) ≡ true)) in_boot at k asked
     where
       in_boot : (k : ℕ) → k < story.ready → asks_for_opening (map_of c) (log k) ≡ true → (j : ℕ) × (k < j) × (j ≤ k + 16) × (gives_opening (map_of c) (log j) ≡ true)
-      in_boot k is_before asked = absurd (let no : ◌≡◌ {A = Bool} false true = sym (nothing_asked k is_before) ∙ asked in cc)
+      in_boot k is_before asked = absurd (both_ways (asks_for_opening (map_of c) (log k)) (nothing_asked k is_before) asked)
 
       at : (i : ℕ) → asks_for_opening (map_of c) (log (past story.ready i)) ≡ true → (j : ℕ) × (past story.ready i < j) × (j ≤ past story.ready i + 16) × (gives_opening (map_of c) (log j) ≡ true)
       at i asked =
@@ -91,7 +92,7 @@ module _ (c : Counter) (log : Log) (story : Story c log) where
 
   taken : (k : ℕ) → Taken k
   taken = each_moment story.ready Taken
-      (λ k is_before heard is_set. absurd (let no : ◌≡◌ {A = Bool} false true = sym (unheard k is_before) ∙ heard in cc))
+      (λ k is_before heard is_set. absurd (both_ways (is_heard (event_in_map c) (log k)) (unheard k is_before) heard))
       (λ k heard is_set. story.takes_in_time k (sym (story.hears_when k) ∙ heard) is_set)
 
   in_time : (n : ℕ) → TakesInTime (map_of c) log n

@@ -224,9 +224,9 @@ fn whole(alloc: Global, counter: &Counter) -> Result<List<Instr>, AllocError>
     ensures { IfOk result (λ code. code ≡ code_of counter.now) }
 {
     let boot = boot(alloc, counter)?;
-    let (front, rest) = boot.as_slice().split_at(3);
+    let (prefix, rest) = boot.as_slice().split_at(3);
     let mut code = List::new(alloc);
-    code.extend_from_slice(front)?;
+    code.extend_from_slice(prefix)?;
     code.push(Instr::Goto { k: BOOT_REST })?;
     push_handler(&mut code, counter)?;
     code.extend_from_slice(rest)?;

@@ -3,6 +3,7 @@ use Rattle.std.specs.Prelude.{ℕ, zero, suc, ◌+◌, Bool, true, false, ◌||�
 use Rattle.std.specs.List.{AllByRecursion}
 use Rattle.std.proofs.Common.{◌≡◌, refl, sym, subst, add-one}
 use Rattle.std.proofs.lemmas.Bool.{and_parts}
+use Rattle.std.proofs.Math.Bool.{or-true}
 use Rattle.pic_isa.specs.declared.sources.Source.{Source}
 use Rattle.pic_isa.specs.declared.sources.Source.TheVariants.{T0, Int, Psp, Ad, Ssp, Ccp1, Tmr2, Tmr1, Ee, Bcl, Ccp2}
 use Rattle.pic_regs.specs.Bytes.{zeros}
@@ -28,22 +29,18 @@ flag_not_in_intcon Int r h = absurd cc
 flag_not_in_intcon _ r h = refl
 
 -- Where an event is heard and its flag is set, the chip's interrupt is requested.
-or_true : (a : Bool) → (a || true) ≡ true
-or_true true = refl
-or_true false = refl
-
 requested_by : (source : Source) (r : Registers) → r.intcon.b7 ≡ true → enable source r ≡ true → (is_in_intcon source || r.intcon.b6) ≡ true → flag source r ≡ true → requested r ≡ true
 requested_by T0 r gie its_enable peie its_flag = rw (gie, its_enable, its_flag) refl
-requested_by Int r gie its_enable peie its_flag = rw (gie, its_enable, its_flag) (simp or_true)
-requested_by Psp r gie its_enable peie its_flag = rw (gie, peie, its_enable, its_flag) (simp or_true)
-requested_by Ad r gie its_enable peie its_flag = rw (gie, peie, its_enable, its_flag) (simp or_true)
-requested_by Ssp r gie its_enable peie its_flag = rw (gie, peie, its_enable, its_flag) (simp or_true)
-requested_by Ccp1 r gie its_enable peie its_flag = rw (gie, peie, its_enable, its_flag) (simp or_true)
-requested_by Tmr2 r gie its_enable peie its_flag = rw (gie, peie, its_enable, its_flag) (simp or_true)
-requested_by Tmr1 r gie its_enable peie its_flag = rw (gie, peie, its_enable, its_flag) (simp or_true)
-requested_by Ee r gie its_enable peie its_flag = rw (gie, peie, its_enable, its_flag) (simp or_true)
-requested_by Bcl r gie its_enable peie its_flag = rw (gie, peie, its_enable, its_flag) (simp or_true)
-requested_by Ccp2 r gie its_enable peie its_flag = rw (gie, peie, its_enable, its_flag) (simp or_true)
+requested_by Int r gie its_enable peie its_flag = rw (gie, its_enable, its_flag) (simp or-true)
+requested_by Psp r gie its_enable peie its_flag = rw (gie, peie, its_enable, its_flag) (simp or-true)
+requested_by Ad r gie its_enable peie its_flag = rw (gie, peie, its_enable, its_flag) (simp or-true)
+requested_by Ssp r gie its_enable peie its_flag = rw (gie, peie, its_enable, its_flag) (simp or-true)
+requested_by Ccp1 r gie its_enable peie its_flag = rw (gie, peie, its_enable, its_flag) (simp or-true)
+requested_by Tmr2 r gie its_enable peie its_flag = rw (gie, peie, its_enable, its_flag) (simp or-true)
+requested_by Tmr1 r gie its_enable peie its_flag = rw (gie, peie, its_enable, its_flag) (simp or-true)
+requested_by Ee r gie its_enable peie its_flag = rw (gie, peie, its_enable, its_flag) (simp or-true)
+requested_by Bcl r gie its_enable peie its_flag = rw (gie, peie, its_enable, its_flag) (simp or-true)
+requested_by Ccp2 r gie its_enable peie its_flag = rw (gie, peie, its_enable, its_flag) (simp or-true)
 
 pub heard_is_requested : (e : MapEvent) (s : Step) → is_heard e s ≡ true → flag e.source s.arrived.regs ≡ true → requested s.arrived.regs ≡ true
 heard_is_requested e s heard its_flag =

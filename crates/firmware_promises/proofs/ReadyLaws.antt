@@ -1,6 +1,7 @@
 -- The ready boundary by what the first n steps show.
 use Rattle.std.specs.Prelude.{ℕ, ◌<◌, ◌≤◌, Bool, true, false, ◌⊎◌}
-use Rattle.std.proofs.Common.{◌≡◌, sym, ◌∙◌, inl, inr, arith}
+use Rattle.std.proofs.Common.{◌≡◌, inl, inr, arith}
+use Rattle.std.proofs.lemmas.Bool.{both_ways}
 use Rattle.pic_machine.specs.Run.{Log}
 use Rattle.map_file.specs.declared.maps.Map.{Map}
 use Rattle.firmware_promises.specs.Counts.{chip_after, takes}
@@ -26,10 +27,7 @@ module _ (m : Map) (log : Log) (n r : ℕ) where
       by (inl h) = h
       by (inr h) = absurd (before r h shown)
 
-not_both : (b : Bool) → b ≡ false → b ≡ true → ⊥
-not_both b is_false is_true = let e = sym is_false ∙ is_true in cc
-
 -- Where the program counter isn't at the ready address and no interrupt is taken, ready isn't shown.
 pub unready : (m : Map) (log : Log) (n k : ℕ) → ((chip_after log k).pc ≡ m.ready → ⊥) → takes (log k) ≡ false → ShowsReady m log n k → ⊥
 unready m log n k elsewhere runs (inl s) = elsewhere s.1
-unready m log n k elsewhere runs (inr s) = not_both (takes (log k)) runs s.1
+unready m log n k elsewhere runs (inr s) = both_ways (takes (log k)) runs s.1

@@ -1,6 +1,7 @@
 -- The two ticks, at each moment of their 26 steps, by the serial run.
 use Rattle.std.specs.Prelude.{ℕ, ◌<◌, ◌≤◌, Bool, true, false, List, [], ◌∷◌, Some}
 use Rattle.std.proofs.Common.{◌≡◌, refl, sym, ◌∙◌, inl, inr, arith}
+use Rattle.std.proofs.lemmas.Bool.{both_ways}
 use Rattle.efrp_meaning.specs.Meaning.{state_after}
 use Rattle.efrp_meaning.proofs.Examples.Programs.{tick}
 use Rattle.firmware_promises.specs.Counts.{chip_after, takes, opens, commits, reactions}
@@ -14,12 +15,9 @@ use Rattle.promise_examples.proofs.Runs.Counting.{program, counter_map, two_tick
 below_15 : (pc at : ℕ) → pc ≡ at → at < 15 → pc ≡ 15 → ⊥
 below_15 pc at is_there h is_15 = omega arith
 
-not_both : (b : Bool) → b ≡ false → b ≡ true → ⊥
-not_both b is_false is_true = let e = sym is_false ∙ is_true in cc
-
 elsewhere : (k at : ℕ) → (chip_after two_ticks k).pc ≡ at → takes (two_ticks k) ≡ false → at < 15 → ShowsReady counter_map two_ticks 26 k → ⊥
 elsewhere k at is_there runs h (inl s) = below_15 (chip_after two_ticks k).pc at is_there h s.1
-elsewhere k at is_there runs h (inr s) = not_both (takes (two_ticks k)) runs s.1
+elsewhere k at is_there runs h (inr s) = both_ways (takes (two_ticks k)) runs s.1
 
 -- The ready boundary is after nine steps.
 abbrev Unready : ℕ → Type 0
