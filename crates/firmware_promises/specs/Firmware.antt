@@ -25,7 +25,7 @@ use Rattle.map_file.specs.declared.maps.MapEvent.{MapEvent}
 use Rattle.map_file.specs.declared.maps.MapSample.{MapSample}
 use Rattle.map_file.specs.declared.maps.MapState.{MapState}
 use Rattle.map_file.specs.declared.maps.Map.{Map}
-use Rattle.map_file.specs.MapRules.{AllDiffer, IsMap}
+use Rattle.map_file.specs.MapRules.{AllDiffer, IsMap, pair}
 use Rattle.map_file.specs.MapText.{map_text}
 use Rattle.firmware_promises.specs.MapNames.{is_listed}
 use Rattle.firmware_promises.specs.Counts.{chip_after}
@@ -66,11 +66,7 @@ typed_state s = (s.name, s.ty)
 abbrev pub typed_decl : DeclTree → List ℕ × Ty
 typed_decl d = (d.name, d.ty)
 
--- The event and the input of a map's sample, by name; and each event with each input that it needs, both in declaration
--- order.
-abbrev pub sample_pair : MapSample → List ℕ × List ℕ
-sample_pair s = (s.event, s.input)
-
+-- Each event with each input that it needs, by name, both in declaration order.
 abbrev pub sample_pairs : ProgramTree → List (List ℕ × List ℕ)
 sample_pairs p = flat_map (λ (e : Event). map (λ input. (e.name, input)) (inputs_needed p e.name)) p.events
 
@@ -81,7 +77,7 @@ pub record Names (p : ProgramTree) (image : Image) (m : Map) : Type 0 where
   pub events : map event_of m.events ≡ p.events
   pub states : map typed_state m.states ≡ map typed_decl (reactive_decls p)
   pub outputs : map (λ port. Some port) m.outputs ≡ map (λ o. port_at o.port) p.outputs
-  pub samples : map sample_pair m.samples ≡ sample_pairs p
+  pub samples : map pair m.samples ≡ sample_pairs p
   pub code_differs : AllDiffer (λ (a : ℕ). a) (code_addresses m)
   pub code_is_there : AllByRecursion (λ a. IsTrue (list_any (λ w. w.address == a) image.words)) (code_addresses m)
   pub states_differ : AllDiffer (λ (a : ℕ). a) (state_addresses m)
