@@ -1,5 +1,5 @@
 use Rattle.std.proofs.Common.{[], ◌∷◌}
-use Rattle.frp_tree.specs.Digits.{hex4}
+use Rattle.text_parts.specs.Digits.{hex4}
 use Rattle.map_file.proofs.line_entries.sampled.Goals as goal
 
 pub returns-in_err-event : goal.returns-in_err-event

@@ -1,6 +1,6 @@
 use Rattle.std.proofs.Common.{[], ◌∷◌, codes}
 use Rattle.std.specs.List.{flat_map}
-use Rattle.frp_tree.specs.Digits.{hex4}
+use Rattle.text_parts.specs.Digits.{hex4}
 use Rattle.map_file.specs.MapText.{line, event_line, state_line, output_line, sample_line, range_line, report_line}
 use Rattle.map_file.proofs.LineFacts.{eight_parts}
 use Rattle.map_file.proofs.writer.write.Goals as goal
