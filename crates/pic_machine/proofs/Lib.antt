@@ -1,7 +1,6 @@
 pub mod ByteArithmeticFacts
 pub mod Examples
 pub mod LoadFacts
-pub mod RisingWordLaws
 pub mod SettingFacts
 pub mod StateFacts
 pub mod TurnLaws

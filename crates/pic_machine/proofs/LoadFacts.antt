@@ -1,21 +1,20 @@
 -- Words that rise, and the program memory that they are written to one by one.
 use Rattle.std.proofs.Common.{◌≡◌, ℕ, zero, suc, ◌+◌, ◌<◌, ◌≤◌, Bool, true, false, List, [], ◌∷◌, length, get_or, set, take, map, replicate, ◌==◌, if◌then◌else◌, ◌≢◌, refl, sym, ap, ◌∙◌, ◌⊎◌, inl, inr, arith, add-one, get_or-set_same, get_or-set_other}
 use Rattle.std.proofs.Math.Path.{fun_ext}
-use Rattle.std.proofs.lemmas.Bool.{cases_lt, eqb-true, eqb-false}
+use Rattle.std.proofs.lemmas.Bool.{cases_lt, eqb-true, eqb-false, ne_eqb}
 use Rattle.std.proofs.lemmas.List.{get_or-map, get_or_past, get_or-replicate, length-map, length-replicate, map-set, take_all}
 use Rattle.hex_file.specs.declared.images.Word.{Word}
 use Rattle.hex_file.specs.Written.{RisesFrom}
 use Rattle.pic_machine.specs.Run.{word_at}
 use Rattle.pic_machine.specs.declared.memory.Cell.{Cell}
-use Rattle.pic_machine.proofs.RisingWordLaws.{risen}
 
--- Numbers that differ aren't found equal.
-no_eqb : (a b : ℕ) → a ≢ b → (a == b) ≡ false
-no_eqb a b other = by_test (a == b) refl
-  where
-    by_test : (test : Bool) → (a == b) ≡ test → test ≡ false
-    by_test false e = refl
-    by_test true e = absurd (other (eqb-true a b e))
+-- A word among words that rise.
+pub risen : (low : ℕ) (ws : List Word) → RisesFrom low ws → (i : ℕ) (d : Word) → i < length ws → (low ≤ (get_or ws i d).address) × ((get_or ws i d).address < 8192) × ((get_or ws i d).word < 0x4000)
+risen low [] rises i d inside = absurd (omega (arith, inside))
+risen low (w ∷ ws) rises zero d inside = (rises.0, rises.1, rises.2)
+risen low (w ∷ ws) rises (suc i) d inside =
+    let later = risen (w.address + 1) ws rises.3 i d (omega (arith, inside)) in
+    (omega (arith, rises.0, later.0), later.1, later.2)
 
 -- A choice by cases and one by `if`.
 one_choice : (test : Bool) (x y : ℕ) → elim test [ true ↦ x | false ↦ y ] ≡ (if test then x else y)
@@ -41,7 +40,7 @@ word_at-more low (w ∷ ws) rises (suc i) d inside k =
         let k_is : w.address ≡ k = eqb-true w.address k e in
         let later = risen (w.address + 1) ws rises.3 i d (omega (arith, inside)) in
         let beyond : x.address ≢ k = omega (arith, k_is, later.0) in
-        sym (ap (λ t. if t then x.word else w.word) (no_eqb x.address k beyond))
+        sym (ap (λ t. if t then x.word else w.word) (ne_eqb x.address k beyond))
 
 -- The words of cells.
 abbrev pub words : List Cell → List ℕ

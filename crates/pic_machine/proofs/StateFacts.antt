@@ -1,3 +1,4 @@
+-- What the code's chip is after its small steps: the return stack, stored results, and what is reported.
 use Rattle.std.proofs.Common.{◌≡◌, ℕ, zero, suc, Some, None, sym, [], ◌∷◌, ◌<◌, Bool, true, false, List, length, get_or, set, ◌==◌, if◌then◌else◌, refl, ap, ◌∙◌, get_or-set_same, get_or-set_other}
 use Rattle.std.proofs.Math.Path.{fun_ext}
 use Rattle.std.proofs.lemmas.Bool.{eqb-true, eqb-false}

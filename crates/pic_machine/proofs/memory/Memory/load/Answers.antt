@@ -1,6 +1,5 @@
 use Rattle.std.proofs.Common.{refl, ◌∙◌, arith, length-set}
-use Rattle.pic_machine.proofs.LoadFacts.{all-erased, written-more, written-all}
-use Rattle.pic_machine.proofs.RisingWordLaws.{risen}
+use Rattle.pic_machine.proofs.LoadFacts.{risen, all-erased, written-more, written-all}
 use Rattle.pic_machine.proofs.memory.Memory.load.Goals as goal
 
 pub new-requires : goal.new-requires
