@@ -18,7 +18,7 @@ use Rattle.map_file.specs.MapRules.{IsMap, IsEvent, IsSample, RangesRise, names_
 use Rattle.map_file.specs.MapText.{line, map_text}
 use Rattle.map_file.specs.MapFaults.{IsWholeLine}
 use Rattle.map_file.specs.Entries.{line_of, fields_of, IsEntry, IsRange, IsSampleLine, entries_of, report_of}
-use Rattle.map_file.specs.FieldWords.{fields_in}
+use Rattle.text_parts.specs.Fields.{parts_of}
 use Rattle.map_file.proofs.EntryOrderFacts.{one_map}
 use Rattle.map_file.proofs.WholeLineFacts.{one_line, line_some}
 use Rattle.map_file.proofs.FieldCutFacts.{AllVisible, all_append, one_fields, fields_told}
@@ -105,10 +105,10 @@ rows_whole [] h = tt
 rows_whole (e ∷ es) h = (entry_whole e h.0, rows_whole es h.1)
 
 -- The line of an entry has the entry's fields.
-pub fields_of_line : (body : List ℕ) (e : Entry) → IsEntry e → body ++ codes "\n" ≡ line_of e → fields_in body ≡ fields_of e
+pub fields_of_line : (body : List ℕ) (e : Entry) → IsEntry e → body ++ codes "\n" ≡ line_of e → parts_of body ≡ fields_of e
 fields_of_line body e h q = go (fields_of e) (fields_visible e h) (some_field e) q
   where
-    go : (fs : List (List ℕ)) → AllVisible fs → fs ≢ [] → body ++ codes "\n" ≡ line fs → fields_in body ≡ fs
+    go : (fs : List (List ℕ)) → AllVisible fs → fs ≢ [] → body ++ codes "\n" ≡ line fs → parts_of body ≡ fs
     go [] all some same = absurd (some refl)
     go (f ∷ fs) all some same = fields_told body f fs all same
 

@@ -12,7 +12,7 @@ use Rattle.map_file.specs.MapRules.{IsMap}
 use Rattle.map_file.specs.MapText.{map_text}
 use Rattle.map_file.specs.MapFaults.{Begins, HasNoEnd, IsWholeLine, FirstFaulty, IsReadAs}
 use Rattle.map_file.specs.Entries.{line_of, fields_of, IsEntry, entries_of}
-use Rattle.map_file.specs.FieldWords.{fields_in}
+use Rattle.text_parts.specs.Fields.{parts_of}
 use Rattle.map_file.specs.Drafts.{Added, empty_draft}
 use Rattle.map_file.proofs.WholeLineFacts.{one_line, line_some, no_line}
 use Rattle.map_file.proofs.FieldCutFacts.{all_append, line_told}
@@ -33,7 +33,7 @@ pub record HasRead (bytes rest : List ℕ) (number : ℕ) (d : Draft) : Type 0 w
 pub read_start : (bytes : List ℕ) → HasRead bytes bytes 1 empty_draft
 read_start bytes = record { entries = []; cut = refl; valid = tt; counted = refl; draft = empty_is_draft; room = omega arith }
 
-body_some : (body : List ℕ) (e : Entry) → fields_in body ≡ fields_of e → 1 ≤ length body
+body_some : (body : List ℕ) (e : Entry) → parts_of body ≡ fields_of e → 1 ≤ length body
 body_some [] entry.Head h = absurd (cc h)
 body_some [] (entry.Event e) h = absurd (cc h)
 body_some [] (entry.State s) h = absurd (cc h)
@@ -49,7 +49,7 @@ line_behind : (front rest body behind : List ℕ) → rest ≡ body ++ (10 ∷ b
 line_behind front rest body behind e = ap (λ u. front ++ u) (e ∙ sym (append_assoc body (codes "\n") behind)) ∙ sym (append_assoc front (body ++ codes "\n") behind)
 
 pub read_more : (bytes rest body behind : List ℕ) (number : ℕ) (d d' : Draft) (e : Entry)
-    → HasRead bytes rest number d → rest ≡ body ++ (10 ∷ behind) → fields_in body ≡ fields_of e → IsEntry e → Added d e true d' → HasRead bytes behind (number + 1) d'
+    → HasRead bytes rest number d → rest ≡ body ++ (10 ∷ behind) → parts_of body ≡ fields_of e → IsEntry e → Added d e true d' → HasRead bytes behind (number + 1) d'
 read_more bytes rest body behind number d d' e h cut fields v added =
     let told : body ++ codes "\n" ≡ line_of e = line_told body (fields_of e) fields in
     record {
@@ -112,12 +112,12 @@ faulty_line bytes rest body behind number d h cut one none =
 
 -- A line that states nothing.
 pub no_entry : (bytes rest body behind : List ℕ) (number : ℕ) (d : Draft) → HasRead bytes rest number d → rest ≡ body ++ (10 ∷ behind) → HasNoEnd body
-    → ((e : Entry) → IsEntry e → fields_in body ≢ fields_of e) → FirstFaulty bytes number
+    → ((e : Entry) → IsEntry e → parts_of body ≢ fields_of e) → FirstFaulty bytes number
 no_entry bytes rest body behind number d h cut one none = faulty_line bytes rest body behind number d h cut one (λ n. none n.next n.valid (fields_of_line body n.next n.valid n.same))
 
 -- A line whose entry isn't admitted.
 pub not_added : (bytes rest body behind : List ℕ) (number : ℕ) (d d' : Draft) (e : Entry) → HasRead bytes rest number d → rest ≡ body ++ (10 ∷ behind) → HasNoEnd body
-    → IsEntry e → fields_in body ≡ fields_of e → Added d e false d' → FirstFaulty bytes number
+    → IsEntry e → parts_of body ≡ fields_of e → Added d e false d' → FirstFaulty bytes number
 not_added bytes rest body behind number d d' e h cut one v fields refused = faulty_line bytes rest body behind number d h cut one (λ n.
     let same : n.next ≡ e = one_entry n.next e n.valid v (sym (fields_of_line body n.next n.valid n.same) ∙ fields) in
     draft_refuses n.map h.entries n.more d d' e n.rules h.draft refused (n.row ∙ ap (λ x. h.entries ++ (x ∷ n.more)) same))

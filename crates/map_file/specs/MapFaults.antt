@@ -1,6 +1,7 @@
 -- Which bytes are a map's text, and which line of other bytes is the first faulty one.
-use Rattle.std.specs.Prelude.{◌≡◌, ◌≢◌, ℕ, ◌+◌, List, ◌++◌, length, codes, Result, Ok, Err}
+use Rattle.std.specs.Prelude.{◌≡◌, ℕ, ◌+◌, List, ◌++◌, length, codes, Result, Ok, Err}
 use Rattle.std.specs.List.{AllByRecursion, concat}
+use Rattle.text_parts.specs.Cuts.{Lacks}
 use Rattle.map_file.specs.declared.maps.Map.{Map}
 use Rattle.map_file.specs.declared.faults.MapFault.{MapFault}
 use Rattle.map_file.specs.declared.faults.MapFault.TheVariants.{Line, Memory}
@@ -22,7 +23,7 @@ pub record Begins (prefix : List ℕ) : Type 0 where
 
 -- No LF is among the bytes.
 abbrev pub HasNoEnd : List ℕ → Type 0
-HasNoEnd bytes = AllByRecursion (λ b. b ≢ 10) bytes
+HasNoEnd bytes = Lacks 10 bytes
 
 -- A whole line has LF at its end, and nowhere else.
 pub record IsWholeLine (line : List ℕ) : Type 0 where

@@ -1,6 +1,9 @@
 // The fields of a line, one after the other.
-ghost use Rattle.std.specs.Prelude.{◌≡◌, ◌≢◌, ℕ, List, [], ◌∷◌, ◌==◌, MatchOption, position};
-ghost use Rattle.map_file.specs.FieldWords.{left, fields_in};
+ghost use Rattle.std.specs.Prelude.{◌≡◌, ◌≢◌, ℕ, List, [], ◌∷◌, MatchOption};
+ghost use Rattle.text_parts.specs.Fields.{parts_of};
+ghost use Rattle.map_file.specs.FieldWords.{left};
+
+use text_parts::split_once;
 
 /// The fields that are left of a line. One space stands between two fields, and a field may be empty.
 #[derive(Clone, Copy, Debug)]
@@ -8,17 +11,10 @@ pub struct Fields<'a> {
     rest: Option<&'a [u8]>,
 }
 
-// The place of the first space.
-fn space_in(bytes: &[u8]) -> Option<usize>
-    ensures { result ≡ position (λ b. b == 32) bytes.now }
-{
-    bytes.iter().position(|byte| *byte == b' ')
-}
-
 impl<'a> Fields<'a> {
     /// The fields of a line without its LF.
     pub fn of(line: &'a [u8]) -> Fields<'a>
-        ensures { left result ≡ fields_in line.now }
+        ensures { left result ≡ parts_of line.now }
     {
         Fields { rest: Some(line) }
     }
@@ -28,13 +24,8 @@ impl<'a> Fields<'a> {
         ensures { MatchOption result (left self.entry ≡ []) (λ found. left self.entry ≡ found.0.now ∷ left found.1) }
     {
         let rest = self.rest?;
-        match space_in(rest) {
-            Some(at) => {
-                let behind = Fields {
-                    rest: Some(&rest[at + 1..]),
-                };
-                Some((&rest[..at], behind))
-            }
+        match split_once(rest, b' ') {
+            Some((field, more)) => Some((field, Fields { rest: Some(more) })),
             None => Some((rest, Fields { rest: None })),
         }
     }
@@ -43,8 +34,8 @@ impl<'a> Fields<'a> {
     pub fn last(self) -> Option<&'a [u8]>
         ensures { MatchOption result ((field : List ℕ) → left self.entry ≢ field ∷ []) (λ field. left self.entry ≡ field.now ∷ []) }
     {
-        let (field, behind) = self.next()?;
-        match behind.next() {
+        let (field, after) = self.next()?;
+        match after.next() {
             Some(_) => None,
             None => Some(field),
         }
@@ -52,11 +43,11 @@ impl<'a> Fields<'a> {
 
     /// The fields after this word, and None where another field stands there.
     pub fn after(self, word: &str) -> Option<Fields<'a>>
-        ensures { MatchOption result ((behind : List (List ℕ)) → left self.entry ≢ word.now ∷ behind) (λ behind. left self.entry ≡ word.now ∷ left behind) }
+        ensures { MatchOption result ((after : List (List ℕ)) → left self.entry ≢ word.now ∷ after) (λ after. left self.entry ≡ word.now ∷ left after) }
     {
-        let (field, behind) = self.next()?;
+        let (field, after) = self.next()?;
         if field == word.as_bytes() {
-            Some(behind)
+            Some(after)
         } else {
             None
         }

@@ -2,6 +2,7 @@
 ghost use Rattle.std.specs.Prelude.{◌≡◌, ◌≢◌, ℕ, ◌<◌, ◌≤◌, List, [], ◌∷◌, codes, MatchOption, IfOk, IsTrue, ◌↔◌};
 ghost use Rattle.std.specs.Fmt.{decimal};
 ghost use Rattle.text_parts.specs.Digits.{hex4};
+ghost use Rattle.text_parts.specs.Fields.{parts_of};
 ghost use Rattle.text_parts.specs.Names.{is_name};
 ghost use Rattle.pic_isa.specs.Names.{name_of_port};
 ghost use Rattle.map_file.specs.declared.entries.Entry.{Entry as Entries};
@@ -11,16 +12,17 @@ ghost use Rattle.map_file.specs.declared.maps.MapState.{MapState as MapStates};
 ghost use Rattle.map_file.specs.declared.maps.MapSample.{MapSample as MapSamples};
 ghost use Rattle.map_file.specs.declared.maps.Range.{Range as Ranges};
 ghost use Rattle.map_file.specs.Entries.{IsEntry, IsRange, IsReport, IsSampleLine, IsUnnamed, event_fields, state_fields, sample_fields, range_field, report_fields, fields_of};
-ghost use Rattle.map_file.specs.FieldWords.{left, fields_in};
+ghost use Rattle.map_file.specs.FieldWords.{left};
 ghost use Rattle.map_file.specs.MapRules.{AddressesFit, IsCode, IsEvent, IsState};
 ghost use Rattle.map_file.specs.MapText.{addresses};
 
 use crate::entries::{Entry, Report};
 use crate::fields::Fields;
 use crate::maps::{MapEvent, MapSample, MapState, Range};
-use crate::values::{code_in, data_in, decimal_in, name_in, port_in, range_in, source_in, type_in};
+use crate::values::{code_in, data_in, decimal_in, port_in, range_in, source_in, type_in};
 use frp_tree::{Text, Ty};
 use std::alloc::{AllocError, Global};
+use text_parts::name_in;
 
 /// The greatest numbers that a map's text may have.
 const TOP_PRIORITY: u32 = 11;
@@ -34,12 +36,12 @@ const MOST_WORDS: u32 = 8192;
 // The name after this word, and the fields after both.
 fn named<'a>(fields: Fields<'a>, word: &str) -> Option<(&'a str, Fields<'a>)>
     ensures { MatchOption result
-        ((name : List ℕ) (behind : List (List ℕ)) → IsTrue (is_name name) → left fields.entry ≢ word.now ∷ name ∷ behind)
+        ((name : List ℕ) (after : List (List ℕ)) → IsTrue (is_name name) → left fields.entry ≢ word.now ∷ name ∷ after)
         (λ found. IsTrue (is_name found.0.now) × (left fields.entry ≡ word.now ∷ found.0.now ∷ left found.1)) }
 {
-    let (field, behind) = fields.after(word)?.next()?;
+    let (field, after) = fields.after(word)?.next()?;
     let name = name_in(field)?;
-    Some((name, behind))
+    Some((name, after))
 }
 
 #[tactic(auto, using(std::proofs::lemmas::Fmt::decimal_injective))]
@@ -90,11 +92,11 @@ fn event(alloc: Global, fields: Fields<'_>) -> Result<Option<MapEvent>, AllocErr
         ((e : MapEvents) → IsEvent e → left fields.entry ≢ codes "event" ∷ event_fields e)
         (λ e. IsEvent e × (left fields.entry ≡ codes "event" ∷ event_fields e))) }
 {
-    let Some((name, behind)) = named(fields, "event") else {
+    let Some((name, after)) = named(fields, "event") else {
         return Ok(None);
     };
     let name = Text::new(alloc, name)?;
-    Ok(event_of(name, behind))
+    Ok(event_of(name, after))
 }
 
 // The addresses of a state's low and high byte.
@@ -140,11 +142,11 @@ fn state(alloc: Global, fields: Fields<'_>) -> Result<Option<MapState>, AllocErr
         ((s : MapStates) → IsState s → left fields.entry ≢ codes "state" ∷ state_fields s)
         (λ s. IsState s × (left fields.entry ≡ codes "state" ∷ state_fields s))) }
 {
-    let Some((name, behind)) = named(fields, "state") else {
+    let Some((name, after)) = named(fields, "state") else {
         return Ok(None);
     };
     let name = Text::new(alloc, name)?;
-    Ok(state_of(name, behind))
+    Ok(state_of(name, after))
 }
 
 // The event and the input that a sample's line names, and the address.
@@ -216,11 +218,11 @@ fn registers(fields: Fields<'_>) -> Option<Range>
 // The number of at most `most` after this word, and the fields after both.
 fn count_in<'a>(fields: Fields<'a>, word: &str, most: u32) -> Option<(u32, Fields<'a>)>
     ensures { MatchOption result
-        ((n : ℕ) (behind : List (List ℕ)) → n ≤ most → left fields.entry ≢ word.now ∷ decimal n ∷ behind)
+        ((n : ℕ) (after : List (List ℕ)) → n ≤ most → left fields.entry ≢ word.now ∷ decimal n ∷ after)
         (λ found. (found.0 ≤ most) × (left fields.entry ≡ word.now ∷ decimal found.0 ∷ left found.1)) }
 {
-    let (field, behind) = fields.after(word)?.next()?;
-    Some((decimal_in(field, most)?, behind))
+    let (field, after) = fields.after(word)?.next()?;
+    Some((decimal_in(field, most)?, after))
 }
 
 fn report(fields: Fields<'_>) -> Option<Report>
@@ -268,8 +270,8 @@ fn unnamed(fields: Fields<'_>) -> Option<Entry>
 /// What a line without its LF states, and None where it is no line of a map. An `Err` is out of memory.
 pub fn entry_in(alloc: Global, line: &[u8]) -> Result<Option<Entry>, AllocError>
     ensures { IfOk result (λ found. MatchOption found
-        ((e : Entries) → IsEntry e → fields_in line.now ≢ fields_of e)
-        (λ e. IsEntry e × (fields_in line.now ≡ fields_of e))) }
+        ((e : Entries) → IsEntry e → parts_of line.now ≢ fields_of e)
+        (λ e. IsEntry e × (parts_of line.now ≡ fields_of e))) }
 {
     let fields = Fields::of(line);
     if let Some(event) = event(alloc, fields)? {

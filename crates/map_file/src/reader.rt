@@ -1,7 +1,7 @@
 // Bytes are read as a map, line by line.
-ghost use Rattle.std.specs.Prelude.{◌≡◌, ◌^◌, ◌<◌, ◌++◌, ◌∷◌, length, position, ◌==◌, IfOk, IfErr, MatchOption, IsTrue, ◌↔◌, []};
+ghost use Rattle.std.specs.Prelude.{◌≡◌, ◌^◌, ◌<◌, length, IfOk, IfErr, IsTrue, ◌↔◌, []};
 ghost use Rattle.map_file.specs.declared.maps.Map.{Map as Maps};
-ghost use Rattle.map_file.specs.MapFaults.{HasNoEnd, IsFaultOf, IsReadAs};
+ghost use Rattle.map_file.specs.MapFaults.{IsFaultOf, IsReadAs};
 ghost use Rattle.map_file.specs.MapRules.{IsMap};
 ghost use Rattle.map_file.specs.MapText.{map_text};
 
@@ -12,23 +12,7 @@ use crate::faults::MapFault;
 use crate::line_entries::entry_in;
 use crate::maps::Map;
 use std::alloc::Global;
-
-// The place of the first LF.
-fn end_in(bytes: &[u8]) -> Option<usize>
-    ensures { result ≡ position (λ b. b == 10) bytes.now }
-{
-    bytes.iter().position(|byte| *byte == b'\n')
-}
-
-// The first line, without its LF, and what follows it; None where no LF is left.
-fn split_line(bytes: &[u8]) -> Option<(&[u8], &[u8])>
-    ensures { MatchOption result
-        (HasNoEnd bytes.now)
-        (λ found. HasNoEnd found.0.now × (bytes.now ≡ found.0.now ++ (10 ∷ found.1.now))) }
-{
-    let end = end_in(bytes)?;
-    Some((&bytes[..end], &bytes[end + 1..]))
-}
+use text_parts::split_once;
 
 // Whether the last line has been read and nothing is left.
 fn is_whole(draft: &Draft, rest: &[u8]) -> bool
@@ -50,7 +34,7 @@ pub fn read(alloc: Global, bytes: &[u8]) -> Result<Map, MapFault>
     let mut draft = empty(alloc);
     let mut rest = bytes;
     let mut number: u32 = 1;
-    while let Some((line, behind)) = split_line(rest) {
+    while let Some((line, after)) = split_once(rest, b'\n') {
         let Some(entry) = entry_in(alloc, line)? else {
             return Err(MapFault::Line(number));
         };
@@ -58,7 +42,7 @@ pub fn read(alloc: Global, bytes: &[u8]) -> Result<Map, MapFault>
         if !added {
             return Err(MapFault::Line(number));
         }
-        rest = behind;
+        rest = after;
         number += 1;
     }
     if !is_whole(&draft, rest) {

@@ -1,11 +1,8 @@
-// What one field of a line writes: a name, a word, a number or an address.
-ghost use Rattle.std.specs.Prelude.{◌≡◌, ◌≢◌, ℕ, ◌<◌, ◌≤◌, List, [], ◌∷◌, ◌||◌, MatchOption, IsTrue, false};
-ghost use Rattle.std.specs.List.{list_all};
+// What one field of a line writes: a word, a number or an address.
+ghost use Rattle.std.specs.Prelude.{◌≡◌, ◌≢◌, ℕ, ◌<◌, ◌≤◌, MatchOption};
 ghost use Rattle.std.specs.Str.{IsUtf8};
 ghost use Rattle.std.specs.Fmt.{decimal};
-ghost use Rattle.text_parts.specs.Bytes.{is_digit, is_letter};
-ghost use Rattle.text_parts.specs.Digits.{hex_digit, hex3, hex4};
-ghost use Rattle.text_parts.specs.Names.{is_name, has_form_of_name};
+ghost use Rattle.text_parts.specs.Digits.{hex3, hex4};
 ghost use Rattle.frp_tree.specs.Names.{type_name};
 ghost use Rattle.frp_tree.specs.declared.syntax.Ty.{Ty as Types};
 ghost use Rattle.pic_isa.specs.declared.sources.Source.{Source as Sources};
@@ -13,65 +10,19 @@ ghost use Rattle.pic_isa.specs.Names.{name_of_port};
 ghost use Rattle.pic_isa.specs.Sources.{source_name};
 ghost use Rattle.map_file.specs.declared.maps.Range.{Range as Ranges};
 ghost use Rattle.map_file.specs.Entries.{IsRange, range_field};
-ghost use Rattle.map_file.specs.FieldWords.{is_plain};
 ghost use Rattle.map_file.specs.MapRules.{IsCode, IsData};
 
 use crate::maps::Range;
 use frp_tree::Ty;
 use pic_isa::{Source, port_named, source_named};
 use std::str;
-
-/// The greatest length of a name, in bytes.
-const LONGEST_NAME: usize = 31;
+use text_parts::{hex3_in, hex4_in, written_decimal_in};
 
 /// The least number that no code address is.
 const CODE_END: u16 = 0x2000;
 
 /// The least number that no data address is.
 const DATA_END: u16 = 0x200;
-
-fn is_letter(byte: u8) -> bool
-    ensures { result ≡ is_letter byte }
-{
-    byte.is_ascii_alphabetic() || byte == b'_'
-}
-
-// Whether letters, digits and `_` are all.
-fn has_name_bytes(bytes: &[u8]) -> bool
-    ensures { result ≡ list_all (λ b. is_letter b || is_digit b) bytes.now }
-{
-    bytes
-        .iter()
-        .all(|byte| is_letter(*byte) || byte.is_ascii_digit())
-}
-
-fn has_form_of_name(field: &[u8]) -> bool
-    ensures { result ≡ has_form_of_name field.now }
-{
-    match field.split_first() {
-        Some((first, rest)) => is_letter(*first) && has_name_bytes(rest),
-        None => false,
-    }
-}
-
-fn is_name(field: &[u8]) -> bool
-    ensures { result ≡ is_name field.now }
-{
-    has_form_of_name(field) && field.len() <= LONGEST_NAME
-}
-
-/// The field as a name, and None where it has not the form of one.
-pub fn name_in(field: &[u8]) -> Option<&str>
-    ensures { MatchOption result (is_name field.now ≡ false) (λ name. IsTrue (is_name field.now) × (name.now ≡ field.now)) }
-{
-    if !is_name(field) {
-        return None;
-    }
-    match str::from_utf8(field) {
-        Ok(name) => Some(name),
-        Err(_) => unreachable!(),
-    }
-}
 
 /// The field as text.
 fn text(field: &[u8]) -> Option<&str>
@@ -112,69 +63,15 @@ pub fn type_in(field: &[u8]) -> Option<Ty>
     }
 }
 
-// Whether it begins with neither a sign nor a leading zero.
-fn is_plain(field: &[u8]) -> bool
-    ensures { result ≡ is_plain field.now }
-{
-    match field.split_first() {
-        Some((first, rest)) => *first != b'+' && (*first != b'0' || rest.is_empty()),
-        None => true,
-    }
-}
-
 /// The number of at most `most` that the field writes in decimal, without a leading zero.
+#[tactic(auto, using(std::proofs::lemmas::Fmt::decimal_injective))]
 pub fn decimal_in(field: &[u8], most: u32) -> Option<u32>
     ensures { MatchOption result
         ((n : ℕ) → n ≤ most → field.now ≢ decimal n)
         (λ n. (n ≤ most) × (field.now ≡ decimal n)) }
 {
-    if !is_plain(field) {
-        return None;
-    }
-    let value = text(field)?.parse::<u32>().ok()?;
+    let value = written_decimal_in(field)?;
     if value <= most { Some(value) } else { None }
-}
-
-// The value of an upper-case hexadecimal digit.
-fn digit(byte: u8) -> Option<u16>
-    ensures { MatchOption result
-        ((d : ℕ) → d < 16 → byte ≢ hex_digit d)
-        (λ d. (d < 16) × (byte ≡ hex_digit d)) }
-{
-    match byte {
-        b'0'..=b'9' => Some(u16::from(byte - b'0')),
-        b'A'..=b'F' => Some(u16::from(byte - b'A') + 10),
-        _ => None,
-    }
-}
-
-// The data address of these three digits.
-fn data_of(first: u8, second: u8, third: u8) -> Option<u16>
-    ensures { MatchOption result
-        ((n : ℕ) → IsData n → first ∷ second ∷ third ∷ [] ≢ hex3 n)
-        (λ n. IsData n × (first ∷ second ∷ third ∷ [] ≡ hex3 n)) }
-{
-    let address = digit(first)? * 256 + digit(second)? * 16 + digit(third)?;
-    if address < DATA_END {
-        Some(address)
-    } else {
-        None
-    }
-}
-
-// The code address of these four digits.
-fn code_of(first: u8, second: u8, third: u8, fourth: u8) -> Option<u16>
-    ensures { MatchOption result
-        ((n : ℕ) → IsCode n → first ∷ second ∷ third ∷ fourth ∷ [] ≢ hex4 n)
-        (λ n. IsCode n × (first ∷ second ∷ third ∷ fourth ∷ [] ≡ hex4 n)) }
-{
-    let high = digit(first)? * 16 + digit(second)?;
-    let address = high * 256 + digit(third)? * 16 + digit(fourth)?;
-    if address < CODE_END {
-        Some(address)
-    } else {
-        None
-    }
 }
 
 /// The data address that the field writes in three digits.
@@ -183,9 +80,11 @@ pub fn data_in(field: &[u8]) -> Option<u16>
         ((n : ℕ) → IsData n → field.now ≢ hex3 n)
         (λ n. IsData n × (field.now ≡ hex3 n)) }
 {
-    match field {
-        [a, b, c] => data_of(*a, *b, *c),
-        _ => None,
+    let address = hex3_in(field)?;
+    if address < DATA_END {
+        Some(address)
+    } else {
+        None
     }
 }
 
@@ -195,9 +94,11 @@ pub fn code_in(field: &[u8]) -> Option<u16>
         ((n : ℕ) → IsCode n → field.now ≢ hex4 n)
         (λ n. IsCode n × (field.now ≡ hex4 n)) }
 {
-    match field {
-        [a, b, c, d] => code_of(*a, *b, *c, *d),
-        _ => None,
+    let address = hex4_in(field)?;
+    if address < CODE_END {
+        Some(address)
+    } else {
+        None
     }
 }
 
@@ -209,8 +110,8 @@ pub fn range_in(field: &[u8]) -> Option<Range>
 {
     match field {
         [a, b, c, b'-', d, e, f] => {
-            let from = data_of(*a, *b, *c)?;
-            let to = data_of(*d, *e, *f)?;
+            let from = data_in(&[*a, *b, *c])?;
+            let to = data_in(&[*d, *e, *f])?;
             if from <= to {
                 Some(Range { from, to })
             } else {

@@ -6,7 +6,7 @@ use Rattle.map_file.proofs.reader.read.Goals as goal
 pub returns-in_default-2-clause-fault : goal.returns-in_default-2-clause-fault
 returns-in_default-2-clause-fault c =
     let line = c.in-Some.ensures in
-    no_entry c.args.bytes.now c.loop-line.rest.now c.in-Some.line.now c.in-Some.behind.now c.loop-line.number c.loop-line.draft c.loop-line.invariant line.1 line.0 (rw c.in_default-2.is at c.in_ok-entry.ensures)
+    no_entry c.args.bytes.now c.loop-line.rest.now c.in-Some.line.now c.in-Some.after.now c.loop-line.number c.loop-line.draft c.loop-line.invariant line.1 line.0 (rw c.in_default-2.is at c.in_ok-entry.ensures)
 
 pub returns-in_default-2-clause-complete : goal.returns-in_default-2-clause-complete
 returns-in_default-2-clause-complete c = faulty_no_map _ _ (returns-in_default-2-clause-fault c)
@@ -16,7 +16,7 @@ returns-then-not-added-clause-fault c =
     let line = c.in-Some.ensures in
     let entry = rw c.in-Some-2.is at c.in_ok-entry.ensures in
     let refused = rw c.if-not-added.true at c.in_ok-added.ensures in
-    not_added c.args.bytes.now c.loop-line.rest.now c.in-Some.line.now c.in-Some.behind.now c.loop-line.number c.loop-line.draft c.add.new.draft c.in-Some-2.entry c.loop-line.invariant line.1 line.0 entry.0 entry.1 refused
+    not_added c.args.bytes.now c.loop-line.rest.now c.in-Some.line.now c.in-Some.after.now c.loop-line.number c.loop-line.draft c.add.new.draft c.in-Some-2.entry c.loop-line.invariant line.1 line.0 entry.0 entry.1 refused
 
 pub returns-then-not-added-clause-complete : goal.returns-then-not-added-clause-complete
 returns-then-not-added-clause-complete c = faulty_no_map _ _ (returns-then-not-added-clause-fault c)
@@ -26,7 +26,7 @@ loop-line-preserved c =
     let line = c.in-Some.ensures in
     let entry = rw c.in-Some-2.is at c.in_ok-entry.ensures in
     let added = rw c.if-not-added.false at c.in_ok-added.ensures in
-    read_more c.args.bytes.now c.loop-line.rest.now c.in-Some.line.now c.in-Some.behind.now c.loop-line.number c.loop-line.draft c.add.new.draft c.in-Some-2.entry c.loop-line.invariant line.1 entry.1 entry.0 added
+    read_more c.args.bytes.now c.loop-line.rest.now c.in-Some.line.now c.in-Some.after.now c.loop-line.number c.loop-line.draft c.add.new.draft c.in-Some-2.entry c.loop-line.invariant line.1 entry.1 entry.0 added
 
 pub returns-then-not-is_whole-clause-fault : goal.returns-then-not-is_whole-clause-fault
 returns-then-not-is_whole-clause-fault c =
