@@ -1,8 +1,9 @@
+// Maps: their texts, and the first faulty lines of other texts.
 ghost use Rattle.std.specs.Prelude.{◌≡◌, ◌<◌, ◌^◌, length, vec_len, IfOk};
 ghost use Rattle.map_file.specs.MapRules.{IsMap};
 
 use frp_tree::{List, Text, Ty};
-use map_file::{Map, MapEvent, MapFault, MapState, Range, read, write};
+use map_file::{Map, MapEvent, MapFault, MapSample, MapState, Range, read, write};
 use pic_isa::Source;
 use std::alloc::{AllocError, Global};
 use std::test::Fail;
@@ -45,8 +46,16 @@ fn state(alloc: Global, name: &str, ty: Ty, low: u16, high: u16) -> Result<MapSt
     })
 }
 
+fn sample(alloc: Global, event: &str, input: &str, at: u16) -> Result<MapSample, AllocError>
+    ensures { IfOk result (λ s. s ≡ record { event = event.now; input = input.now; at = at }) }
+{
+    let event = Text::new(alloc, event)?;
+    let input = Text::new(alloc, input)?;
+    Ok(MapSample { event, input, at })
+}
+
 // A map with each kind of line.
-fn sample(alloc: Global) -> Result<Map, AllocError>
+fn each_kind(alloc: Global) -> Result<Map, AllocError>
     ensures { IfOk result (λ map. IsMap map) }
 {
     let slow = event(alloc, "Slow", Source::Tmr1, 1, 0x01FE, 0x020C)?;
@@ -54,10 +63,13 @@ fn sample(alloc: Global) -> Result<Map, AllocError>
     let duty = state(alloc, "duty", Ty::Bool, 0x020, 0x020)?;
     let speed = state(alloc, "speed", Ty::U8, 0x0EF, 0x0EF)?;
     let runtime = state(alloc, "run_time", Ty::U16, 0x16F, 0x190)?;
+    let load = sample(alloc, "Stop", "load", 0x0AB1)?;
+    let torque = sample(alloc, "Slow", "torque", 0x01F4)?;
     Ok(Map {
         events: List::from_vec(vec![in alloc; slow, stop]?),
         states: List::from_vec(vec![in alloc; duty, speed, runtime]?),
         outputs: List::from_vec(vec![in alloc; 2, 1]?),
+        samples: List::from_vec(vec![in alloc; load, torque]?),
         ready: 0x00A7,
         regs: List::from_vec(vec![in alloc;
             Range {
@@ -78,7 +90,7 @@ fn sample(alloc: Global) -> Result<Map, AllocError>
 
 #[test]
 fn writes_each_kind_of_line(rt: HostRuntime) -> Result<(), Fail> {
-    let map = sample(rt.alloc())?;
+    let map = each_kind(rt.alloc())?;
     let text = write(rt.alloc(), &map)?;
     let expected = "efrp map 1\n\
         event Slow TMR1 1 open 01FE commit 020C\n\
@@ -88,6 +100,8 @@ fn writes_each_kind_of_line(rt: HostRuntime) -> Result<(), Fail> {
         state run_time u16 16F 190\n\
         output PORTC\n\
         output PORTB\n\
+        sample Stop load 0AB1\n\
+        sample Slow torque 01F4\n\
         ready 00A7\n\
         regs 006-007\n\
         regs 020-07F\n\
@@ -115,6 +129,33 @@ fn reads_back(rt: HostRuntime) -> Result<(), Fail> {
         b"efrp map 1\nstate a u16 16F 190\nready 0000\nreport depth 0 ram 0 words 0 settle 4294967295\n",
     )?;
     assert_eq!(rt; wide.settle, 4_294_967_295);
+    Ok(())
+}
+
+const SAMPLING: &[u8] = b"efrp map 1\n\
+    event Tick INT 1 open 0041 commit 1A47\n\
+    state top u8 020\n\
+    output PORTB\n\
+    sample Tick level 0012\n\
+    sample Tick init 1FFF\n\
+    ready 002F\n\
+    regs 006-00B\n\
+    regs 020-07F\n\
+    report depth 1 ram 11 words 72 settle 586\n";
+
+#[test]
+fn reads_samples_back(rt: HostRuntime) -> Result<(), Fail> {
+    let map = read(rt.alloc(), SAMPLING)?;
+    let [level, init] = map.samples.as_slice() else {
+        return Err(Fail::new("there are two samples"));
+    };
+    assert_eq!(rt; level.event.as_str(), "Tick");
+    assert_eq!(rt; level.input.as_str(), "level");
+    assert_eq!(rt; level.at, 0x12);
+    assert_eq!(rt; init.input.as_str(), "init");
+    assert_eq!(rt; init.at, 0x1FFF);
+    let text = write(rt.alloc(), &map)?;
+    assert_eq!(rt; text.as_slice(), SAMPLING);
     Ok(())
 }
 
@@ -149,10 +190,56 @@ fn first_faulty_lines(rt: HostRuntime) {
     assert_eq!(rt; more, Some(MapFault::Line(4)));
 }
 
+// The fault of a text whose third line, after the one event Tick, is this one.
+fn third_line_fault(alloc: Global, line: &str) -> Result<Option<MapFault>, AllocError> {
+    let text = format!(in alloc;
+        "efrp map 1\nevent Tick INT 1 open 0041 commit 1A47\n{line}\nready 002F\nreport depth 0 ram 0 words 0 settle 0\n"
+    )?;
+    if text.len() < 1000 {
+        Ok(fault_of(alloc, text.as_bytes()))
+    } else {
+        Ok(None)
+    }
+}
+
+#[test]
+fn faulty_samples(rt: HostRuntime) -> Result<(), Fail> {
+    let line = third_line_fault(rt.alloc(), "sample Tick level 0012")?;
+    assert_eq!(rt; line, None);
+    let unknown = third_line_fault(rt.alloc(), "sample Tock level 0012")?;
+    assert_eq!(rt; unknown, Some(MapFault::Line(3)));
+    let high = third_line_fault(rt.alloc(), "sample Tick level 2000")?;
+    assert_eq!(rt; high, Some(MapFault::Line(3)));
+    let short = third_line_fault(rt.alloc(), "sample Tick level 012")?;
+    assert_eq!(rt; short, Some(MapFault::Line(3)));
+    let digit = third_line_fault(rt.alloc(), "sample Tick 9 0012")?;
+    assert_eq!(rt; digit, Some(MapFault::Line(3)));
+    let more = third_line_fault(rt.alloc(), "sample Tick level 0012 0012")?;
+    assert_eq!(rt; more, Some(MapFault::Line(3)));
+    let twice = third_line_fault(
+        rt.alloc(),
+        "sample Tick level 0012\nsample Tick dark 0012\nsample Tick level 0013",
+    )?;
+    assert_eq!(rt; twice, Some(MapFault::Line(5)));
+    let late = third_line_fault(rt.alloc(), "sample Tick level 0012\noutput PORTB")?;
+    assert_eq!(rt; late, Some(MapFault::Line(4)));
+    let before_its_event = fault_of(
+        rt.alloc(),
+        b"efrp map 1\nsample Tick level 0012\nevent Tick INT 1 open 0041 commit 1A47\n",
+    );
+    assert_eq!(rt; before_its_event, Some(MapFault::Line(2)));
+    let after_ready = fault_of(
+        rt.alloc(),
+        b"efrp map 1\nevent Tick INT 1 open 0041 commit 1A47\nready 0000\nsample Tick level 0012\n",
+    );
+    assert_eq!(rt; after_ready, Some(MapFault::Line(4)));
+    Ok(())
+}
+
 #[test]
 fn each_cut_is_a_fault(rt: HostRuntime) {
-    for end in 0..COUNTER.len() {
-        let fault = fault_of(rt.alloc(), &COUNTER[..end]);
+    for end in 0..SAMPLING.len() {
+        let fault = fault_of(rt.alloc(), &SAMPLING[..end]);
         assert!(rt; matches!(fault, Some(MapFault::Line(_))));
     }
 }
@@ -181,8 +268,8 @@ fn changes_are_answered(alloc: Global, bytes: &[u8], place: usize) -> Result<boo
 
 #[test]
 fn each_changed_byte_is_answered(rt: HostRuntime) -> Result<(), Fail> {
-    for place in 0..COUNTER.len() {
-        assert!(rt; changes_are_answered(rt.alloc(), COUNTER, place)?);
+    for place in 0..SAMPLING.len() {
+        assert!(rt; changes_are_answered(rt.alloc(), SAMPLING, place)?);
     }
     Ok(())
 }
