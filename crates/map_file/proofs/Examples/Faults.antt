@@ -1,10 +1,16 @@
 -- First faulty lines of short texts.
-use Rattle.std.proofs.Common.{◌≡◌, ◌≢◌, ℕ, List, [], ◌++◌, get_or, codes, refl, sym, ap, ◌∙◌, arith}
+use Rattle.std.proofs.Common.{◌≡◌, ◌≢◌, ℕ, List, [], ◌++◌, get_or, inr, codes, refl, sym, ap, ◌∙◌, arith}
 use Rattle.std.specs.Fmt.{digits}
+use Rattle.map_file.specs.declared.maps.MapSample.{MapSample}
+use Rattle.map_file.specs.declared.drafts.Draft.{Draft}
+use Rattle.map_file.specs.declared.entries.Entry.TheVariants as entry
+use Rattle.map_file.specs.declared.entries.Section.TheVariants as section
+use Rattle.map_file.specs.Drafts.{empty_draft}
 use Rattle.map_file.specs.MapText.{map_text}
 use Rattle.map_file.specs.MapFaults.{IsMapText, Begins, IsWholeLine, FirstFaulty}
 use Rattle.map_file.proofs.WholeLineFacts.{one_line, line_some}
-use Rattle.map_file.proofs.Examples.Texts.{empty}
+use Rattle.map_file.proofs.ReadingFacts.{HasRead, read_start, read_more, not_added}
+use Rattle.map_file.proofs.Examples.Texts.{empty, sample}
 use Rattle.map_file.proofs.Examples.Rules.{empty_keeps_the_rules}
 
 empty_text : List ℕ
@@ -14,9 +20,9 @@ the_text_of_a_map : IsMapText empty_text
 unfolding digits empty_text
 the_text_of_a_map = record { map = empty; rules = empty_keeps_the_rules; text = refl }
 
-a_front_of_two_lines : Begins (codes "efrp map 1\nready 0000\n")
+a_prefix_of_two_lines : Begins (codes "efrp map 1\nready 0000\n")
 unfolding digits
-a_front_of_two_lines = record { map = empty; rules = empty_keeps_the_rules; rest = codes "report depth 0 ram 0 words 0 settle 0\n"; text = refl }
+a_prefix_of_two_lines = record { map = empty; rules = empty_keeps_the_rules; rest = codes "report depth 0 ram 0 words 0 settle 0\n"; text = refl }
 
 nothing : Begins []
 nothing = record { map = empty; rules = empty_keeps_the_rules; rest = map_text empty; text = refl }
@@ -51,3 +57,21 @@ second_version = record {
 
     go : (line behind : List ℕ) → IsWholeLine line → other_version ≡ line ++ behind → (rest : List ℕ) → line ++ rest ≡ other_version ++ rest
     go line behind whole e rest = ap (λ u. u ++ rest) (sym (one_line other_version line [] behind all whole e).0)
+
+-- Samples that aren't in the form at their place. The line before has been read.
+
+abbrev head : Draft
+head = record empty_draft { section = section.Events }
+
+read_head : (rest : List ℕ) → HasRead (codes "efrp map 1\n" ++ rest) rest 2 head
+read_head rest = read_more (codes "efrp map 1\n" ++ rest) (codes "efrp map 1\n" ++ rest) (codes "efrp map 1") rest 1 empty_draft head entry.Head (read_start (codes "efrp map 1\n" ++ rest)) refl refl tt (refl, refl, refl, refl)
+
+level : MapSample
+level = sample (codes "Tick") (codes "level") 0x12
+
+-- The event that it names isn't known yet.
+sample_before_its_event : FirstFaulty (codes "efrp map 1\nsample Tick level 0012\nevent Tick INT 1 open 0041 commit 1A47\n") 2
+unfolding level
+sample_before_its_event =
+    let rest = codes "sample Tick level 0012\nevent Tick INT 1 open 0041 commit 1A47\n" in
+    not_added (codes "efrp map 1\n" ++ rest) rest (codes "sample Tick level 0012") (codes "event Tick INT 1 open 0041 commit 1A47\n") 2 head head (entry.Sample level) (read_head rest) refl (search (arith)) (search (arith)) refl (inr refl)
