@@ -1,12 +1,12 @@
 -- Where each name of a list depends on one of the list, one of them depends on itself.
-use Rattle.std.specs.Prelude.{◌≡◌, ◌≢◌, ℕ, Bool, true, false, ◌||◌, List, [], ◌∷◌, ◌++◌, refl}
+use Rattle.std.specs.Prelude.{◌≡◌, ℕ, Bool, true, false, ◌||◌, List, [], ◌∷◌, ◌++◌, refl}
 use Rattle.std.specs.List.{list_any}
 use Rattle.std.specs.Str.{bytes_eq}
-use Rattle.std.proofs.Common.{ap, subst, ◌∙◌}
+use Rattle.std.proofs.Common.{ap, subst}
 use Rattle.std.proofs.lemmas.Bool.{false≢true}
 use Rattle.std.proofs.lemmas.Slice.Eq.{bytes_eq-Decides}
 use Rattle.frp_tree.specs.Tree.{ProgramTree}
-use Rattle.efrp_meaning.specs.Causal.{DependsOn, DependsThrough}
+use Rattle.efrp_meaning.specs.Causal.{DependsThrough}
 use Rattle.efrp_meaning.specs.Laws.{LeadsRound}
 
 module _ (p : ProgramTree) (event : List ℕ) where

@@ -1,5 +1,5 @@
 -- Where no definition depends on itself on an event, each has a value of its type at the depth of as many as there are.
-use Rattle.std.specs.Prelude.{◌≡◌, ℕ, zero, suc, ◌+◌, ◌<◌, ◌≤◌, ◌⊎◌, Bool, true, false, not, ◌||◌, ◌&&◌, List, [], ◌∷◌, length, map, filter, find, Option, Some, None, if◌then◌else◌, refl, option_and_then}
+use Rattle.std.specs.Prelude.{◌≡◌, ℕ, zero, suc, ◌<◌, ◌≤◌, ◌⊎◌, Bool, true, false, not, ◌||◌, List, [], ◌∷◌, length, map, filter, Option, Some, None, if◌then◌else◌, refl, option_and_then}
 use Rattle.std.specs.List.{AllByRecursion, list_any}
 use Rattle.std.specs.Str.{bytes_eq}
 use Rattle.std.proofs.Common.{sym, ap, subst, ◌∙◌, arith}
@@ -11,12 +11,11 @@ use mathlib.Core.Logic.{inl, inr}
 use Rattle.frp_tree.specs.declared.syntax.Ty.{Ty}
 use Rattle.frp_tree.specs.declared.syntax.Ty.TheVariants.{U8}
 use Rattle.frp_tree.specs.Tree.{Tree, ClauseTree, BehaviourTree, Plain, Input, Table, Reactive, DeclTree, ProgramTree}
-use Rattle.efrp_meaning.specs.Decls.{decl_named, is_input, is_table, is_reactive, reactive_decls, inputs_of}
+use Rattle.efrp_meaning.specs.Decls.{decl_named, is_input, is_table, is_reactive}
 use Rattle.efrp_meaning.specs.Types.{type_of, type_of_name, value_type, IsTypedAs, IsTyped}
-use Rattle.efrp_meaning.specs.Values.{modulus}
 use Rattle.efrp_meaning.specs.Needs.{names_in, IsNamedIn, clause_for}
-use Rattle.efrp_meaning.specs.Meaning.{State, Samples, value_at, old_state, sample_of, Rule, Always, Sampled, Tabled, Now, Later, Stays, clause_rule, rule_on, evaluate, stands_for, value_by, value_on, depth}
-use Rattle.efrp_meaning.specs.Causal.{dependencies_by, dependencies, DependsOn, DependsThrough, IsCausalOn}
+use Rattle.efrp_meaning.specs.Meaning.{State, Samples, value_at, old_state, sample_of, Always, Now, Later, clause_rule, rule_on, evaluate, stands_for, value_by, value_on, depth}
+use Rattle.efrp_meaning.specs.Causal.{dependencies_by, DependsOn, DependsThrough, IsCausalOn}
 use Rattle.efrp_meaning.specs.States.{HasValue, AreValuesOf, IsState, AreSamples}
 use Rattle.efrp_meaning.proofs.TypedValueLaws.{evaluate-typed, decl-typed, FoundTyped}
 
@@ -214,7 +213,7 @@ module _ (p : ProgramTree) (typed : IsTyped p) (s : State) (is_state : IsState p
       by_definition (Some d) e rest =
           let less = without-shorter x names (all x d e (inl refl)) in
           let known = λ (y : List ℕ) (h : list_any (bytes_eq y) (dependencies_by x (rule_on event d.behaviour)) ≡ true).
-              rest y (ap (λ o. list_any (bytes_eq y) (elim o [ Some c ↦ dependencies_by x (rule_on event c.behaviour) | None ↦ [] ])) e ∙ h) (omega (arith, less)) in
+          rest y (ap (λ o. list_any (bytes_eq y) (elim o [ Some c ↦ dependencies_by x (rule_on event c.behaviour) | None ↦ [] ])) e ∙ h) (omega (arith, less)) in
           value_by-typed p typed s is_state j are_samples event x (λ y. value_on p s j event y k) d e known
 
   pub defined-at-depth : (x : List ℕ) → HasValue (type_of_name p x) (value_on p s j event x (depth p))

@@ -1,6 +1,7 @@
 -- Programs, and what they mean and cost, computed.
 pub mod Bounds
 pub mod Causality
+pub mod Fits
 pub mod LargeBounds
 pub mod Needed
 pub mod Operators

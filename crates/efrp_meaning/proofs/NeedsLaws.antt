@@ -1,15 +1,15 @@
 -- The non-reactive definitions that an event needs are the least that are closed: as many turns as there are definitions reach
 -- them all.
-use Rattle.std.specs.Prelude.{◌≡◌, ℕ, zero, suc, ◌+◌, ◌<◌, ◌≤◌, ◌⊎◌, Bool, true, false, ◌||◌, ◌&&◌, List, [], ◌∷◌, ◌++◌, length, filter, refl, if◌then◌else◌}
+use Rattle.std.specs.Prelude.{◌≡◌, ℕ, zero, suc, ◌<◌, ◌≤◌, ◌⊎◌, Bool, true, false, ◌||◌, ◌&&◌, List, [], ◌∷◌, ◌++◌, length, filter, refl, if◌then◌else◌}
 use Rattle.std.specs.List.{AllByRecursion, list_any, list_all}
 use Rattle.std.specs.Str.{bytes_eq}
-use Rattle.std.proofs.Common.{sym, ap, subst, ◌∙◌, arith}
+use Rattle.std.proofs.Common.{sym, ap, ◌∙◌, arith}
 use Rattle.std.proofs.lemmas.Bool.{and_parts, false≢true}
 use Rattle.std.proofs.lemmas.List.Folds.{list_any-append}
 use mathlib.Core.Logic.{inl, inr}
 use Rattle.frp_tree.specs.Tree.{Tree, DeclTree, ProgramTree}
 use Rattle.efrp_meaning.specs.Decls.{is_plain}
-use Rattle.efrp_meaning.specs.Needs.{names_in, is_named_in, plain_expression, first_needed, expressions_of, plain_named_in, plain_reached, needed_plain, needed}
+use Rattle.efrp_meaning.specs.Needs.{names_in, is_named_in, plain_expression, first_needed, expressions_of, plain_named_in, plain_reached}
 use Rattle.efrp_meaning.specs.Laws.{NeedsAreClosed, NeedsAreLeast}
 
 -- On these definitions what passes the first test passes the second.

@@ -4,7 +4,7 @@ use Rattle.std.proofs.Common.{sym, ap, ap₂, ◌∙◌}
 use Rattle.std.proofs.Math.Path.{fun_ext}
 use Rattle.frp_tree.specs.Tree.{Tree, DeclTree, OutputTree, ProgramTree}
 use Rattle.efrp_meaning.specs.Decls.{decl_named, inputs_of}
-use Rattle.efrp_meaning.specs.Meaning.{State, Samples, map_two, all_defined, value_at, sample_of, Rule, Always, Sampled, Tabled, Now, Later, Stays, rule_on, evaluate, stands_for, value_by, value_on, expression_on, depth, new_state_by, react}
+use Rattle.efrp_meaning.specs.Meaning.{State, Samples, map_two, all_defined, value_at, sample_of, Rule, Always, Sampled, Tabled, Now, Later, Stays, rule_on, evaluate, stands_for, value_by, value_on, expression_on, depth, new_state_by}
 use Rattle.efrp_meaning.specs.Laws.{IgnoresSamples}
 
 module _ (p : ProgramTree) (none : inputs_of p ≡ []) (s : State) (j j' : Samples) (event : List ℕ) where

@@ -1,20 +1,19 @@
 -- Reactions are defined and lead from states to states, with a byte for each output; and so do serial runs.
-use Rattle.std.specs.Prelude.{◌≡◌, ℕ, ◌<◌, Bool, true, false, ◌||◌, List, [], ◌∷◌, ◌++◌, map, filter, fold, flat_map, Option, Some, None, if◌then◌else◌, refl, option_map, option_and_then}
+use Rattle.std.specs.Prelude.{◌≡◌, ℕ, Bool, true, false, ◌||◌, List, [], ◌∷◌, ◌++◌, map, filter, fold, flat_map, Option, Some, None, if◌then◌else◌, refl, option_map, option_and_then}
 use Rattle.std.specs.List.{AllByRecursion, IsDistinct, list_any}
 use Rattle.std.specs.Str.{bytes_eq}
 use Rattle.std.proofs.Common.{sym, ap, subst, ◌∙◌}
 use Rattle.std.proofs.lemmas.Bool.{false≢true}
-use Rattle.std.proofs.lemmas.Map.Keys.{IsDistinct-head, IsDistinct-tail}
 use Rattle.std.proofs.lemmas.Slice.Eq.{bytes_eq-Decides}
 use Rattle.frp_tree.specs.declared.syntax.Ty.{Ty}
 use Rattle.frp_tree.specs.declared.syntax.Ty.TheVariants.{U8}
 use Rattle.frp_tree.specs.declared.syntax.Event.{Event}
-use Rattle.frp_tree.specs.Tree.{Tree, ClauseTree, BehaviourTree, Plain, Input, Table, Reactive, DeclTree, OutputTree, ProgramTree}
-use Rattle.efrp_meaning.specs.Decls.{decl_named, is_input, is_table, is_reactive, reactive_decls}
+use Rattle.frp_tree.specs.Tree.{ClauseTree, BehaviourTree, Plain, Input, Table, Reactive, DeclTree, OutputTree, ProgramTree}
+use Rattle.efrp_meaning.specs.Decls.{decl_named, is_table, is_reactive, reactive_decls}
 use Rattle.efrp_meaning.specs.Types.{type_of, type_of_name, value_type, IsTypedAs, IsTyped}
 use Rattle.efrp_meaning.specs.Values.{literal_number}
 use Rattle.efrp_meaning.specs.Needs.{clause_for}
-use Rattle.efrp_meaning.specs.Meaning.{State, Samples, Occurrence, Reaction, SerialRun, map_two, all_defined, old_state, Rule, Later, Now, Stays, clause_rule, rule_on, value_on, expression_on, depth, new_state_by, new_state, port_values, react, first_state_of, initial_state, add_reaction, and_then_on, serial}
+use Rattle.efrp_meaning.specs.Meaning.{State, Samples, Occurrence, SerialRun, map_two, all_defined, old_state, Later, Now, clause_rule, rule_on, value_on, expression_on, depth, new_state_by, new_state, port_values, first_state_of, add_reaction, and_then_on}
 use Rattle.efrp_meaning.specs.Causal.{IsCausalOn, IsCausal}
 use Rattle.efrp_meaning.specs.States.{HasValue, AreValuesOf, IsState, AreSamples, ArePortValues, IsOccurrence, NamesDiffer}
 use Rattle.efrp_meaning.specs.Laws.{HasPortValues, BeginsInAState, ReactsToAState, RunsToAState}
@@ -131,8 +130,7 @@ has-port-values p s j event typed is_state are_samples causal = ports-have p typ
 pub reacts-to-a-state : (p : ProgramTree) → ReactsToAState p
 reacts-to-a-state p s j event typed differ is_state are_samples causal =
     let new = new-state-has p typed s is_state j are_samples event causal differ in
-    let ports = ports-have p typed s is_state j are_samples event causal in
-    (
+    let ports = ports-have p typed s is_state j are_samples event causal in (
       record { state = new.0; ports = ports.0 },
       ap (λ o. map_two (λ n values. record { state = n; ports = values }) o (port_values p s j event)) new.1 ∙ ap (map_two (λ n values. record { state = n; ports = values }) (Some new.0)) ports.1,
       new.2,

@@ -1,8 +1,17 @@
 // What is true of every program, as contracts of functions that do nothing.
 ghost use Rattle.frp_tree.specs.Tree.{ProgramTree};
 ghost use Rattle.efrp_meaning.specs.Laws.{
-    BeginsInAState, HasPortValues, HasTypedValues, IgnoresSamples, IsDefinedAtDepth, LeadsRound,
-    NeedsAreClosed, NeedsAreLeast, ReactsToAState, RunsToAState, Solves,
+  BeginsInAState,
+  HasPortValues,
+  HasTypedValues,
+  IgnoresSamples,
+  IsDefinedAtDepth,
+  LeadsRound,
+  NeedsAreClosed,
+  NeedsAreLeast,
+  ReactsToAState,
+  RunsToAState,
+  Solves,
 };
 
 /// An expression that has a type has a value of it, where the names in it have values of theirs.

@@ -1,3 +1,4 @@
+pub mod Examples
 pub mod LexemeLaws
 pub mod LongestLaws
 pub mod TokenLaws

@@ -10,7 +10,7 @@ use Rattle.efrp_meaning.specs.Bounds.{levels, off, boot, body, words_bound, ram_
 use Rattle.efrp_meaning.proofs.Examples.Programs.{event, clause, reactive, one_more, wide, small, on_go, go, divided_by}
 
 -- Eleven events, one on each source, with these priorities.
-abbrev eleven_events : ℕ → ℕ → ℕ → ℕ → ℕ → ℕ → ℕ → ℕ → ℕ → ℕ → ℕ → List Event
+abbrev pub eleven_events : ℕ → ℕ → ℕ → ℕ → ℕ → ℕ → ℕ → ℕ → ℕ → ℕ → ℕ → List Event
 eleven_events p0 p1 p2 p3 p4 p5 p6 p7 p8 p9 p10 =
     event (codes "A0") (codes "T0") p0 ∷ event (codes "A1") (codes "INT") p1 ∷ event (codes "A2") (codes "PSP") p2
     ∷ event (codes "A3") (codes "AD") p3 ∷ event (codes "A4") (codes "SSP") p4 ∷ event (codes "A5") (codes "CCP1") p5
@@ -18,14 +18,14 @@ eleven_events p0 p1 p2 p3 p4 p5 p6 p7 p8 p9 p10 =
     ∷ event (codes "A9") (codes "BCL") p9 ∷ event (codes "A10") (codes "CCP2") p10 ∷ []
 
 -- The same clause for each of the events.
-abbrev for_each : List Event → Tree → List ClauseTree
+abbrev pub for_each : List Event → Tree → List ClauseTree
 for_each events e = map (λ event. clause event.name e) events
 
 abbrev rising_events : List Event
 rising_events = eleven_events 1 2 3 4 5 6 7 8 8 8 8
 
 -- One counter of all eleven events, on eight levels.
-abbrev all_sources : ProgramTree
+abbrev pub all_sources : ProgramTree
 all_sources = record { events = rising_events; setups = []; decls = reactive (codes "n") U8 (lit.Plain 0) (for_each rising_events (one_more (codes "n"))) ∷ []; outputs = [] }
 
 pub all_sources_levels : levels all_sources ≡ 8
@@ -35,7 +35,7 @@ pub all_sources_settle : settle_bound all_sources ≡ 12440
 all_sources_settle = refl
 
 -- A name divided by itself so many times.
-abbrev divisions : ℕ → Tree
+abbrev pub divisions : ℕ → Tree
 divisions zero = Name (codes "x")
 divisions (suc n) = divided_by (divisions n) (codes "x")
 
@@ -58,7 +58,7 @@ wide_states zero = []
 wide_states (suc n) = reactive (codes "v" ++ hex2 (suc n)) U16 (lit.Wide 0) (clause go (wide 1) ∷ []) ∷ wide_states n
 
 -- All of the RAM: 86 states of two bytes and one of one byte, one level, and as much scratch as states.
-abbrev full_ram : ProgramTree
+abbrev pub full_ram : ProgramTree
 full_ram = on_go (wide_states 86 ++ reactive (codes "w") U8 (lit.Plain 0) (clause go (small 1) ∷ []) ∷ [])
 
 pub full_ram_bound : ram_bound full_ram ≡ 352
@@ -68,7 +68,7 @@ pub full_ram_words : words_bound full_ram ≡ 2678
 full_ram_words = refl
 
 -- One more state of one byte, with no clause.
-abbrev past_ram : ProgramTree
+abbrev pub past_ram : ProgramTree
 past_ram = on_go (wide_states 86 ++ reactive (codes "w") U8 (lit.Plain 0) (clause go (small 1) ∷ []) ∷ reactive (codes "z") U8 (lit.Plain 0) [] ∷ [])
 
 pub past_ram_bound : ram_bound past_ram ≡ 353

@@ -1,11 +1,11 @@
 -- The names in each kind of expression, and what events need.
-use Rattle.std.specs.Prelude.{◌≡◌, ℕ, List, [], ◌∷◌, map, codes, refl, true}
+use Rattle.std.specs.Prelude.{◌≡◌, ℕ, List, [], ◌∷◌, map, codes, refl}
 use Rattle.frp_tree.specs.declared.syntax.Ty.TheVariants.{U8, U16}
 use Rattle.frp_tree.specs.declared.syntax.Lit.TheVariants as lit
-use Rattle.frp_tree.specs.declared.syntax.UnOp.TheVariants.{Com, Not}
+use Rattle.frp_tree.specs.declared.syntax.UnOp.TheVariants.{Com}
 use Rattle.frp_tree.specs.declared.syntax.BinOp.TheVariants.{Add}
 use Rattle.frp_tree.specs.declared.syntax.Side.TheVariants.{Left}
-use Rattle.frp_tree.specs.Tree.{Tree, Const, Name, Unary, Binary, Shift, If, Convert, Look, ProgramTree}
+use Rattle.frp_tree.specs.Tree.{Tree, Name, Unary, Binary, Shift, If, Convert, Look, ProgramTree}
 use Rattle.efrp_meaning.specs.Needs.{names_in, reacting, plain_reached, first_needed, needed_plain, needed}
 use Rattle.efrp_meaning.specs.Bounds.{body}
 use Rattle.efrp_meaning.proofs.Examples.Programs.{small, plain, reactive, clause, output, on_go, squares, motor, go, tick}

@@ -4,7 +4,7 @@ use Rattle.frp_tree.specs.declared.syntax.Ty.TheVariants.{U8}
 use Rattle.frp_tree.specs.Tree.{Name}
 use Rattle.efrp_meaning.specs.Types.{type_of}
 use Rattle.efrp_meaning.specs.Needs.{inputs_needed}
-use Rattle.efrp_meaning.specs.Meaning.{Occurrence, value_on, react, initial_state, serial, state_after}
+use Rattle.efrp_meaning.specs.Meaning.{Occurrence, value_on, react, initial_state, serial}
 use Rattle.efrp_meaning.proofs.Examples.Programs.{greatest_level, sampled_division, counter, tick, low, high}
 
 abbrev at : List ℕ → ℕ → Occurrence

@@ -1,15 +1,13 @@
 -- Entries of tables: by their number, and the last one past the end.
-use Rattle.std.specs.Prelude.{◌≡◌, ℕ, List, [], ◌∷◌, map, Option, Some, None, codes, refl, true, false}
-use Rattle.frp_tree.specs.declared.syntax.Ty.{Ty}
+use Rattle.std.specs.Prelude.{◌≡◌, ℕ, List, [], ◌∷◌, Some, None, codes, refl, true, false}
 use Rattle.frp_tree.specs.declared.syntax.Ty.TheVariants.{U8, U16}
 use Rattle.frp_tree.specs.declared.syntax.Ty.TheVariants as ty
-use Rattle.frp_tree.specs.declared.syntax.Lit.{Lit}
 use Rattle.frp_tree.specs.declared.syntax.Lit.TheVariants as lit
-use Rattle.frp_tree.specs.Tree.{Tree, Name, Look, ProgramTree}
+use Rattle.frp_tree.specs.Tree.{Name, Look, ProgramTree}
 use Rattle.efrp_meaning.specs.Types.{type_of}
 use Rattle.efrp_meaning.specs.Values.{entry_at, number_at}
-use Rattle.efrp_meaning.specs.Meaning.{Occurrence, value_on, expression_on, react, initial_state, serial}
-use Rattle.efrp_meaning.proofs.Examples.Programs.{wave, table, small, wide, tick, go, on_go}
+use Rattle.efrp_meaning.specs.Meaning.{Occurrence, value_on, expression_on, initial_state, serial}
+use Rattle.efrp_meaning.proofs.Examples.Programs.{wave, table, small, wide, tick, on_go}
 
 abbrev three : List ℕ
 three = 7 ∷ 8 ∷ 9 ∷ []
