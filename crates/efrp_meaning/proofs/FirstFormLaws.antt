@@ -1,5 +1,5 @@
 -- One counter of any names, on its event: with any samples, since it has no input.
-use Rattle.std.specs.Prelude.{◌≡◌, ◌≤◌, ℕ, ◌+◌, ◌%◌, List, [], ◌∷◌, Some, refl}
+use Rattle.std.specs.Prelude.{◌≡◌, ◌≤◌, ℕ, ◌+◌, ◌%◌, false, List, [], ◌∷◌, Some, refl}
 use Rattle.std.proofs.lemmas.Slice.Eq.{bytes_eq-Decides}
 use Rattle.std.proofs.lemmas.Bool.{le-leb}
 use Rattle.frp_tree.specs.declared.syntax.Ty.TheVariants.{U8}
@@ -7,17 +7,16 @@ use Rattle.frp_tree.specs.declared.syntax.Lit.TheVariants as lit
 use Rattle.frp_tree.specs.declared.syntax.BinOp.TheVariants.{Add}
 use Rattle.frp_tree.specs.declared.syntax.Event.{Event}
 use Rattle.frp_tree.specs.declared.syntax.Setup.{Setup}
-use Rattle.frp_tree.specs.Tree.{Name, Binary, ProgramTree}
+use Rattle.frp_tree.specs.Tree.{Const, Name, Binary, Reactive, ProgramTree}
 use Rattle.efrp_meaning.specs.Meaning.{Samples, react, initial_state}
-use Rattle.efrp_meaning.proofs.Examples.Programs.{clause, output, reactive, small}
 
 module _ (tick name port : List ℕ) (events : List Event) (setups : List Setup) (init step : ℕ) where
   abbrev pub one_counter : ProgramTree
   one_counter = record {
     events = events;
     setups = setups;
-    decls = reactive name U8 (lit.Plain init) (clause tick (Binary Add (Name name) (small step)) ∷ []) ∷ [];
-    outputs = output port (Name name) ∷ [];
+    decls = record { name = name; ty = U8; behaviour = Reactive (lit.Plain init) (record { event = tick; expr = Binary Add (Name name) (Const (lit.Plain step)); later = false } ∷ []) } ∷ [];
+    outputs = record { port = port; expr = Name name } ∷ [];
   }
 
   pub one_counter-initial : init ≤ 255 → initial_state one_counter ≡ Some (init ∷ [])

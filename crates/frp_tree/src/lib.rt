@@ -1,8 +1,8 @@
 //! The tree of a program, and the texts and lists that it is made of.
 //!
 //! Contracts see a `Text` as its bytes and a `List` as the list of its items. `specs/` has the
-//! definitions that speak of a program's tree alone: what each lower crate's contracts, the
-//! compiler's and the firmware's promises cite. Every other crate stands on this one.
+//! definitions that speak of a program's tokens and tree alone. What a program means is in
+//! `efrp_meaning`.
 #![tactic(auto)]
 
 mod lists;
