@@ -3,7 +3,7 @@ use Rattle.std.proofs.Common.{◌≡◌, ℕ, zero, suc, ◌<◌, ◌||◌, true
 use Rattle.std.specs.Prelude.{◌==◌}
 use Rattle.std.proofs.lemmas.Bool.{or_cases, and_parts}
 use Rattle.pic_isa.specs.declared.sources.Source.{Source}
-use Rattle.pic_isa.specs.declared.sources.Source.TheVariants.{T0, Int, Psp, Ad, Ssp, Ccp1, Tmr2, Tmr1, Ee, Bcl, Ccp2}
+use Rattle.pic_isa.specs.declared.sources.Source.TheVariants.{T0, Int, Ee, Bcl, Ccp2}
 use Rattle.pic_isa.specs.Sources.{flag_of, enable_of}
 use Rattle.counter_code.specs.declared.counters.Counter.{Counter}
 use Rattle.counter_code.specs.declared.counters.SetupAt.{SetupAt}
@@ -49,28 +49,18 @@ written_one_by_one P c a fine holds written = ⊎_elim
 pub at_flag : (P : ℕ → Type 0) → P 0x00B → P 0x00C → P 0x00D → (s : Source) → P (flag_of s).address
 at_flag P i p1 p2 T0 = i
 at_flag P i p1 p2 Int = i
-at_flag P i p1 p2 Psp = p1
-at_flag P i p1 p2 Ad = p1
-at_flag P i p1 p2 Ssp = p1
-at_flag P i p1 p2 Ccp1 = p1
-at_flag P i p1 p2 Tmr2 = p1
-at_flag P i p1 p2 Tmr1 = p1
 at_flag P i p1 p2 Ee = p2
 at_flag P i p1 p2 Bcl = p2
 at_flag P i p1 p2 Ccp2 = p2
+at_flag P i p1 p2 _ = p1
 
 pub at_enable : (P : ℕ → Type 0) → P 0x00B → P 0x08C → P 0x08D → (s : Source) → P (enable_of s).address
 at_enable P i p1 p2 T0 = i
 at_enable P i p1 p2 Int = i
-at_enable P i p1 p2 Psp = p1
-at_enable P i p1 p2 Ad = p1
-at_enable P i p1 p2 Ssp = p1
-at_enable P i p1 p2 Ccp1 = p1
-at_enable P i p1 p2 Tmr2 = p1
-at_enable P i p1 p2 Tmr1 = p1
 at_enable P i p1 p2 Ee = p2
 at_enable P i p1 p2 Bcl = p2
 at_enable P i p1 p2 Ccp2 = p2
+at_enable P i p1 p2 _ = p1
 
 pub at_port : (P : ℕ → Type 0) → P 5 → P 6 → P 7 → P 8 → P 9 → (port : ℕ) → port < 5 → P (port_address port)
 at_port P a b c d e zero small = a

@@ -11,26 +11,13 @@ ghost use Rattle.counter_code.specs.Layout.{within_bank_1, bank_1_code, boot_cod
 use counter_code::{Counter, SetupAt};
 use frp_tree::List;
 use hex_file::{Image, Word};
+use pic_isa::bits::{GIE, PEIE, RP0};
+use pic_isa::registers::{INTCON, PORTA, STATUS};
 use pic_isa::{BitAt, Dest, Instr, Source, encode};
 use std::alloc::{AllocError, Global};
 
-/// STATUS, whose bit 5 chooses bank 1.
-pub const STATUS: u8 = 0x03;
-
-const BANK_BIT: u8 = 5;
-
-/// INTCON, with the bits PEIE and GIE.
-pub const INTCON: u8 = 0x0B;
-
-const PEIE_BIT: u8 = 6;
-
-const GIE_BIT: u8 = 7;
-
 /// The byte of the state.
 pub const STATE: u8 = 0x20;
-
-/// PORTA. The other ports follow it.
-const FIRST_PORT: u8 = 0x05;
 
 /// The addresses of the instructions that store the state and write the port.
 pub const OPEN: u16 = 7;
@@ -59,7 +46,7 @@ pub fn port_register(port: u8) -> u8
     requires { port < 5 }
     ensures { result ≡ port_address port }
 {
-    FIRST_PORT + port
+    PORTA + port
 }
 
 // The low seven bits of a data address of bank 0 or 1.
@@ -158,15 +145,9 @@ fn push_within_bank_1(code: &mut List<Instr>, high: &[Instr]) -> Result<(), Allo
     if high.is_empty() {
         return Ok(());
     }
-    code.push(Instr::Bsf {
-        f: STATUS,
-        b: BANK_BIT,
-    })?;
+    code.push(Instr::Bsf { f: STATUS, b: RP0 })?;
     code.extend_from_slice(high)?;
-    code.push(Instr::Bcf {
-        f: STATUS,
-        b: BANK_BIT,
-    })
+    code.push(Instr::Bcf { f: STATUS, b: RP0 })
 }
 
 // The enable of a source in INTCON, or else PEIE.
@@ -174,10 +155,7 @@ fn enabling(source: Source) -> Instr
     ensures { result ≡ intcon_enable source }
 {
     if needs_peripheral_enable(source) {
-        Instr::Bsf {
-            f: INTCON,
-            b: PEIE_BIT,
-        }
+        Instr::Bsf { f: INTCON, b: PEIE }
     } else {
         setting(source.enable())
     }
@@ -194,10 +172,7 @@ fn boot(alloc: Global, counter: &Counter) -> Result<List<Instr>, AllocError>
     push_low_setup(&mut code, &counter.setup)?;
     push_within_bank_1(&mut code, high.as_slice())?;
     code.push(enabling(counter.source))?;
-    code.push(Instr::Bsf {
-        f: INTCON,
-        b: GIE_BIT,
-    })?;
+    code.push(Instr::Bsf { f: INTCON, b: GIE })?;
     Ok(code)
 }
 

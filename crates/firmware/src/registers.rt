@@ -3,10 +3,11 @@
 ghost use Rattle.std.specs.Prelude.{◌≡◌, [], ◌∷◌, ◌++◌, ◌<◌, IfOk, OnOk};
 ghost use Rattle.counter_code.specs.Maps.{is_set_up, is_written, ranges_below, sets_up_bank_1, with_address};
 
-use crate::code::{INTCON, STATE, STATUS, is_in_bank_1, needs_peripheral_enable, port_register};
+use crate::code::{STATE, is_in_bank_1, needs_peripheral_enable, port_register};
 use counter_code::{Counter, SetupAt};
 use frp_tree::List;
 use map_file::Range;
+use pic_isa::registers::{INTCON, STATUS};
 use std::alloc::{AllocError, Global};
 
 /// The data addresses, from 0 on.

@@ -5,7 +5,7 @@ use Rattle.std.proofs.Common.{◌≡◌, refl, sym, subst, add-one}
 use Rattle.std.proofs.lemmas.Bool.{and_parts}
 use Rattle.std.proofs.Math.Bool.{or-true}
 use Rattle.pic_isa.specs.declared.sources.Source.{Source}
-use Rattle.pic_isa.specs.declared.sources.Source.TheVariants.{T0, Int, Psp, Ad, Ssp, Ccp1, Tmr2, Tmr1, Ee, Bcl, Ccp2}
+use Rattle.pic_isa.specs.declared.sources.Source.TheVariants.{T0, Int}
 use Rattle.pic_regs.specs.Bytes.{zeros}
 use Rattle.pic_regs.specs.Registers.{Registers, flag, enable, requested}
 use Rattle.pic_machine.specs.Chip.{Chip}
@@ -32,15 +32,7 @@ flag_not_in_intcon _ r h = refl
 requested_by : (source : Source) (r : Registers) → r.intcon.b7 ≡ true → enable source r ≡ true → (is_in_intcon source || r.intcon.b6) ≡ true → flag source r ≡ true → requested r ≡ true
 requested_by T0 r gie its_enable peie its_flag = rw (gie, its_enable, its_flag) refl
 requested_by Int r gie its_enable peie its_flag = rw (gie, its_enable, its_flag) (simp or-true)
-requested_by Psp r gie its_enable peie its_flag = rw (gie, peie, its_enable, its_flag) (simp or-true)
-requested_by Ad r gie its_enable peie its_flag = rw (gie, peie, its_enable, its_flag) (simp or-true)
-requested_by Ssp r gie its_enable peie its_flag = rw (gie, peie, its_enable, its_flag) (simp or-true)
-requested_by Ccp1 r gie its_enable peie its_flag = rw (gie, peie, its_enable, its_flag) (simp or-true)
-requested_by Tmr2 r gie its_enable peie its_flag = rw (gie, peie, its_enable, its_flag) (simp or-true)
-requested_by Tmr1 r gie its_enable peie its_flag = rw (gie, peie, its_enable, its_flag) (simp or-true)
-requested_by Ee r gie its_enable peie its_flag = rw (gie, peie, its_enable, its_flag) (simp or-true)
-requested_by Bcl r gie its_enable peie its_flag = rw (gie, peie, its_enable, its_flag) (simp or-true)
-requested_by Ccp2 r gie its_enable peie its_flag = rw (gie, peie, its_enable, its_flag) (simp or-true)
+requested_by _ r gie its_enable peie its_flag = rw (gie, peie, its_enable, its_flag) (simp or-true)
 
 pub heard_is_requested : (e : MapEvent) (s : Step) → is_heard e s ≡ true → flag e.source s.arrived.regs ≡ true → requested s.arrived.regs ≡ true
 heard_is_requested e s heard its_flag =

@@ -2,7 +2,7 @@
 use Rattle.std.specs.Prelude.{ℕ, zero, suc, ◌<◌, true, false, [], ◌∷◌, refl}
 use Rattle.std.proofs.Common.{◌≡◌, inl, inr, arith}
 use Rattle.pic_isa.specs.declared.sources.Source.{Source}
-use Rattle.pic_isa.specs.declared.sources.Source.TheVariants.{T0, Int, Psp, Ad, Ssp, Ccp1, Tmr2, Tmr1, Ee, Bcl, Ccp2}
+use Rattle.pic_isa.specs.declared.sources.Source.TheVariants.{T0}
 use Rattle.pic_regs.specs.Bytes.{Byte, zeros}
 use Rattle.pic_machine.specs.Run.{Log}
 use Rattle.firmware_promises.specs.Boots.{FlagsStay}
@@ -13,29 +13,11 @@ use Rattle.promise_examples.proofs.Logs.GoodLog.{good, boots, starts}
 
 nothing_at_first : (source : Source) → clears source boots ≡ false
 nothing_at_first T0 = refl
-nothing_at_first Int = refl
-nothing_at_first Psp = refl
-nothing_at_first Ad = refl
-nothing_at_first Ssp = refl
-nothing_at_first Ccp1 = refl
-nothing_at_first Tmr2 = refl
-nothing_at_first Tmr1 = refl
-nothing_at_first Ee = refl
-nothing_at_first Bcl = refl
-nothing_at_first Ccp2 = refl
+nothing_at_first _ = refl
 
 nothing_then : (source : Source) → clears source starts ≡ false
 nothing_then T0 = refl
-nothing_then Int = refl
-nothing_then Psp = refl
-nothing_then Ad = refl
-nothing_then Ssp = refl
-nothing_then Ccp1 = refl
-nothing_then Tmr2 = refl
-nothing_then Tmr1 = refl
-nothing_then Ee = refl
-nothing_then Bcl = refl
-nothing_then Ccp2 = refl
+nothing_then _ = refl
 
 pub good_keeps_flags : (n : ℕ) → FlagsStay counting_map good n
 good_keeps_flags n zero source h before = nothing_at_first source

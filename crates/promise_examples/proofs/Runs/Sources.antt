@@ -4,7 +4,7 @@ use Rattle.std.proofs.Common.{◌≡◌, refl}
 use Rattle.efrp_meaning.specs.Meaning.{state_after}
 use Rattle.efrp_meaning.proofs.Examples.Programs.{tick}
 use Rattle.pic_isa.specs.declared.sources.Source.{Source}
-use Rattle.pic_isa.specs.declared.sources.Source.TheVariants.{T0, Int, Psp, Ad, Ssp, Ccp1, Tmr2, Tmr1, Ee, Bcl, Ccp2}
+use Rattle.pic_isa.specs.declared.sources.Source.TheVariants.{T0, Int, Tmr2, Tmr1, Ccp2}
 use Rattle.pic_machine.specs.Run.{Log, run}
 use Rattle.counter_code.specs.declared.counters.Counter.{Counter}
 use Rattle.counter_code.specs.declared.counters.SetupAt.{SetupAt}
@@ -27,16 +27,7 @@ commits_on mine source = let c = counter_of mine pins_out 0 1 2 in commits (map_
 -- Each source is heard.
 each_commits : (source : Source) → commits_on source source ≡ tick ∷ []
 each_commits T0 = refl
-each_commits Int = refl
-each_commits Psp = refl
-each_commits Ad = refl
-each_commits Ssp = refl
-each_commits Ccp1 = refl
-each_commits Tmr2 = refl
-each_commits Tmr1 = refl
-each_commits Ee = refl
-each_commits Bcl = refl
-each_commits Ccp2 = refl
+each_commits _ = refl
 
 -- Another source isn't.
 int_is_no_t0 : commits_on T0 Int ≡ []
