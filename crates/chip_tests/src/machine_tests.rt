@@ -92,7 +92,9 @@ fn takes_an_interrupt_and_returns(rt: HostRuntime) -> Result<(), Fail> {
     let _ = chip.step(0x000, false);
     let _ = chip.step(0x000, false);
     let taken = chip.step(0x002, false);
-    assert!(rt; taken.did == Did::Took && !chip.due() && taken.latched == 0x002 && taken.wrote.is_none());
+    assert!(rt;
+        taken.did == Did::Took && !chip.due() && taken.latched == 0x002 && taken.wrote.is_none()
+    );
     assert!(rt; chip.pc() == 0x0004 && chip.depth() == 1 && chip.regs().read(0x00B) == 0x12);
     assert!(rt; chip.step(0x000, false).wrote == Some(0x00B));
     let merged = chip.step(0x000, false);
