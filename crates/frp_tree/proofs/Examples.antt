@@ -1,4 +1,5 @@
--- Priorities, literals and limits, computed.
+-- Limits, literals, priorities and marks, computed.
 pub mod Limits
 pub mod Literals
+pub mod Marks
 pub mod Priorities
