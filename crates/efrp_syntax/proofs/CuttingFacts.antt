@@ -1,12 +1,13 @@
+-- The loop over a text: tokens that lead up to a place, and a fault there.
 use Rattle.std.proofs.Common.{◌≡◌, ◌≢◌, ℕ, ◌+◌, ◌<◌, ◌≤◌, Bool, true, false, List, [], ◌∷◌, ◌++◌, length, None, Result, Ok, Err, IfOk, IfErr, ◌==◌, ◌⊎◌, inl, inr, refl, sym, ap, subst, ◌∙◌, arith}
 use Rattle.std.specs.List.{AllByRecursion}
 use Rattle.std.proofs.lemmas.Bool.{eqb-true, false≢true}
 use Rattle.std.proofs.lemmas.List.{append-nil, append_assoc, length-append}
 use Rattle.frp_tree.specs.Tokens.{IsLexeme, starts_comment, is_number_token, Cuts, here, IsWithin, Reaches, IsBadByte, IsTooBig, HasTokens}
-use Rattle.frp_tree.specs.Fronts.{Skips, IsFront}
+use Rattle.frp_tree.specs.Prefixes.{Skips, IsFirstToken}
 use Rattle.frp_tree.specs.declared.tokens.Token.{Token}
 use Rattle.frp_tree.proofs.LexemeLaws.{lexeme_some}
-use Rattle.frp_tree.proofs.TokenLaws.{skip, take_front, one_list, bad_none, big_none, one_bad, one_big, bad_no_big}
+use Rattle.frp_tree.proofs.TokenLaws.{skip, take_token, one_list, bad_none, big_none, one_bad, one_big, bad_no_big}
 use Rattle.efrp_syntax.specs.Pieces.{Skipped, Taken}
 use Rattle.efrp_syntax.specs.Lexed.{Lexed, OnlyMemory, IsRefused}
 use Rattle.efrp_syntax.specs.declared.faults.SyntaxFault.{SyntaxFault}
@@ -25,8 +26,8 @@ pub skip_shorter : (text more : List ℕ) → Skips text more → length more < 
 skip_shorter text more (inl s) = omega (arith, ap length s.spelled)
 skip_shorter text more (inr s) = omega (arith, ap length s.spelled, length-append s.body more)
 
-pub front_shorter : (after : Bool) (text more : List ℕ) (t : Token) → IsFront after text t more → length more < length text
-front_shorter after text more t f = go f.w f.lexeme f.spelled
+pub prefix_shorter : (after : Bool) (text more : List ℕ) (t : Token) → IsFirstToken after text t more → length more < length text
+prefix_shorter after text more t f = go f.w f.lexeme f.spelled
   where
     go : (w : List ℕ) → IsLexeme w t → text ≡ w ++ more → length more < length text
     go [] l e = absurd (lexeme_some t [] [] l refl)
@@ -43,11 +44,11 @@ all_push : (P : Token → Type 0) (ts : List Token) (t : Token) → AllByRecursi
 all_push P [] t h p = (p, tt)
 all_push P (x ∷ ts) t h p = (h.0, all_push P ts t h.1 p)
 
-pub cut_front : (text rest more : List ℕ) (after : Bool) (found : List Token) (t : Token) → HasCut text rest after found → IsFront after rest t more → IsWithin t → HasCut text more (is_number_token t) (found ++ t ∷ [])
-cut_front text rest more after found t h f w = record {
-  goes_on = λ ts last end c. subst (λ xs. Cuts false text xs last end) (sym (append_assoc found (t ∷ []) ts)) (h.goes_on (t ∷ ts) last end (take_front after rest more t f c));
+pub cut_prefix : (text rest more : List ℕ) (after : Bool) (found : List Token) (t : Token) → HasCut text rest after found → IsFirstToken after rest t more → IsWithin t → HasCut text more (is_number_token t) (found ++ t ∷ [])
+cut_prefix text rest more after found t h f w = record {
+  goes_on = λ ts last end c. subst (λ xs. Cuts false text xs last end) (sym (append_assoc found (t ∷ []) ts)) (h.goes_on (t ∷ ts) last end (take_token after rest more t f c));
   within = all_push IsWithin found t h.within w;
-  shorter = omega (arith, front_shorter after rest more t f, h.shorter);
+  shorter = omega (arith, prefix_shorter after rest more t f, h.shorter);
 }
 
 -- How far it has been cut.
@@ -75,7 +76,7 @@ cut_fault text rest place after found (BadByte p) l h e n s t =
     (l, subst (IsBadByte text) (sym t.0) (record { after = after; rest = rest; reached = reaches text rest place after found h e; some = some rest n; no_blank = s.0; no_comment = s.1; no_token = t.1 }))
 cut_fault text rest place after found (TooBig p) l h e n s t =
     let b = t.1 in
-    let f = b.front in
+    let f = b.prefix in
     inr (
       l,
       subst (IsTooBig text) (sym t.0) (record {

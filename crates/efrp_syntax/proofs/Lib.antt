@@ -1,6 +1,6 @@
 pub mod CuttingFacts
 pub mod Examples
-pub mod MarkFrontFacts
-pub mod NumberFrontFacts
+pub mod FirstMarkFacts
+pub mod FirstNumberFacts
 pub mod RunFacts
-pub mod TokenFrontFacts
+pub mod FirstTokenFacts

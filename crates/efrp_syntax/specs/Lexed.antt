@@ -1,10 +1,11 @@
+-- What the lexer answers of a text.
 use Rattle.std.specs.Prelude.{◌≡◌, ℕ, ◌<◌, ◌≤◌, List, length, Result, Ok, Err, ◌⊎◌}
 use Rattle.frp_tree.specs.declared.tokens.Token.{Token}
 use Rattle.frp_tree.specs.Tokens.{HasTokens, IsBadByte, IsTooBig}
 use Rattle.efrp_syntax.specs.declared.faults.SyntaxFault.{SyntaxFault}
 use Rattle.efrp_syntax.specs.declared.faults.SyntaxFault.TheVariants.{BadByte, TooBig, Unexpected, TooDeep, TooMany, Memory}
 
--- The fault is want of memory.
+-- The fault is out of memory.
 abbrev pub OnlyMemory : SyntaxFault → Type 0
 OnlyMemory fault = fault ≡ Memory
 
@@ -19,7 +20,7 @@ Lexed text (Err (Unexpected tokens)) = ⊥
 Lexed text (Err (TooDeep token)) = ⊥
 Lexed text (Err (TooMany kind)) = ⊥
 
--- The answer is this fault, or want of memory.
+-- The answer is this fault, or out of memory.
 abbrev pub IsRefused : SyntaxFault → Result (List Token) SyntaxFault → Type 0
 IsRefused fault (Ok tokens) = ⊥
 IsRefused fault (Err told) = (told ≡ fault) ⊎ (told ≡ Memory)

@@ -1,3 +1,4 @@
+// Classes of bytes, and how far a text goes on in one.
 ghost use Rattle.std.specs.Prelude.{◌≡◌};
 ghost use Rattle.std.specs.List.{prefix_len};
 ghost use Rattle.frp_tree.specs.Tokens.{is_blank};
@@ -29,14 +30,14 @@ impl Class {
         }
     }
 
-    /// How many bytes at the front of the text belong to the class.
+    /// How many bytes at the beginning of the text belong to the class.
     pub fn count(self, text: &[u8]) -> usize
         ensures { result ≡ prefix_len (is_in self) text.now }
     {
         text.iter().take_while(|byte| self.has(**byte)).count()
     }
 
-    /// The bytes at the front that belong to the class, and what follows them.
+    /// The bytes at the beginning that belong to the class, and what follows them.
     pub fn run(self, text: &[u8]) -> (&[u8], &[u8])
         ensures { IsRun (is_in self) text.now result.0.now result.1.now }
     {

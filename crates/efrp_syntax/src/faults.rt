@@ -1,3 +1,4 @@
+// Why a text has no tokens or no tree.
 use std::alloc::AllocError;
 
 /// What there may be too many of.
@@ -18,13 +19,13 @@ pub enum SyntaxFault {
     /// The name at this byte is longer than 31 bytes, or the number there is above 65,535. At byte 65,536: the
     /// text is longer than that.
     TooBig(u32),
-    /// This many tokens are the longest front with which some program begins.
+    /// This many tokens are the longest prefix with which some program begins.
     Unexpected(u32),
     /// This token opens a nesting of 65.
     TooDeep(u32),
     /// There is one too many of this kind.
     TooMany(Kind),
-    /// Want of memory.
+    /// Out of memory.
     Memory,
 }
 

@@ -1,3 +1,4 @@
+// The tokens of a text, or its first fault.
 ghost use Rattle.std.specs.Prelude.{◌≡◌, ◌≢◌, ◌<◌, ◌≤◌, length, List as Items, IfOk, IfErr};
 ghost use Rattle.frp_tree.specs.declared.tokens.Token.{Token as Tokens};
 ghost use Rattle.efrp_syntax.specs.declared.faults.SyntaxFault.{SyntaxFault as Faults};
@@ -5,7 +6,7 @@ ghost use Rattle.frp_tree.specs.Tokens.{HasTokens, is_number_token};
 ghost use Rattle.efrp_syntax.specs.Lexed.{Lexed, OnlyMemory, IsRefused};
 
 use crate::faults::SyntaxFault;
-use crate::fronts::{skipped, token};
+use crate::prefixes::{skipped, token};
 use frp_tree::{List, Token};
 use std::alloc::Global;
 
@@ -43,7 +44,7 @@ fn cut(alloc: Global, text: &[u8]) -> Result<List<Token>, SyntaxFault>
 }
 
 /// The tokens of a text of at most 65,536 bytes. `TooBig(65536)` exactly where the text is longer;
-/// otherwise the first fault by byte place, `BadByte` or `TooBig`. `Memory` is want of memory. The time is
+/// otherwise the first fault by byte place, `BadByte` or `TooBig`. `Memory` is out of memory. The time is
 /// linear in the text.
 pub fn lex(alloc: Global, text: &[u8]) -> Result<List<Token>, SyntaxFault>
     // The tokens, or the first fault.

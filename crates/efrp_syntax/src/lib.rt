@@ -6,12 +6,12 @@
 
 mod classes;
 mod faults;
-mod fronts;
 mod keywords;
 mod laws;
 mod lexer;
 mod marks;
 mod numbers;
+mod prefixes;
 
 pub use faults::{Kind, SyntaxFault};
 pub use frp_tree::Token;

@@ -1,7 +1,7 @@
-// The mark at the front of a text.
+// The mark at the beginning of a text.
 ghost use Rattle.std.specs.Prelude.{◌≡◌, ◌≢◌, ℕ, [], ◌∷◌, Some, MatchOption, slice_get};
 ghost use Rattle.frp_tree.specs.Tokens.{marks};
-ghost use Rattle.efrp_syntax.specs.Pieces.{HasNoLongMark, HasNoMark, IsMarkFront};
+ghost use Rattle.efrp_syntax.specs.Pieces.{HasNoLongMark, HasNoMark, IsFirstMark};
 
 use frp_tree::marks;
 
@@ -58,9 +58,9 @@ fn one_byte_mark(byte: u8) -> Option<u8>
     }
 }
 
-/// The mark of two bytes at the front of a text, and what follows it.
+/// The mark of two bytes at the beginning of a text, and what follows it.
 fn long_mark(text: &[u8]) -> Option<(u8, &[u8])>
-    ensures { MatchOption result (HasNoLongMark text.now) (λ found. IsMarkFront text.now found.0 found.1.now) }
+    ensures { MatchOption result (HasNoLongMark text.now) (λ found. IsFirstMark text.now found.0 found.1.now) }
 {
     match text {
         [first, second, rest @ ..] => Some((two_byte_mark(*first, *second)?, rest)),
@@ -68,9 +68,9 @@ fn long_mark(text: &[u8]) -> Option<(u8, &[u8])>
     }
 }
 
-/// The longest mark at the front of a text, and what follows it.
+/// The longest mark at the beginning of a text, and what follows it.
 pub fn mark(text: &[u8]) -> Option<(u8, &[u8])>
-    ensures { MatchOption result (HasNoMark text.now) (λ found. IsMarkFront text.now found.0 found.1.now) }
+    ensures { MatchOption result (HasNoMark text.now) (λ found. IsFirstMark text.now found.0 found.1.now) }
 {
     if let Some(found) = long_mark(text) {
         return Some(found);

@@ -1,8 +1,9 @@
+// The number at the beginning of a text.
 ghost use Rattle.std.specs.Prelude.{◌≡◌, ◌<◌, ℕ, List, ◌∷◌, ◌==◌, MatchOption, IsTrue, false};
 ghost use Rattle.std.specs.List.{list_all};
 ghost use Rattle.text_parts.specs.Bytes.{is_digit, is_hex_digit, begins};
 ghost use Rattle.text_parts.specs.Numbers.{value_after};
-ghost use Rattle.efrp_syntax.specs.Pieces.{fitting, IsNumberFront};
+ghost use Rattle.efrp_syntax.specs.Pieces.{fitting, IsFirstNumber};
 
 use crate::classes::Class;
 use text_parts::number_of;
@@ -28,10 +29,10 @@ fn behind_prefix(text: &[u8]) -> Option<&[u8]>
     }
 }
 
-/// The number at the front of a text, and None for one above 65,535; and what follows it.
+/// The number at the beginning of a text, and None for one above 65,535; and what follows it.
 pub fn number(text: &[u8]) -> (Option<u16>, &[u8])
     requires { IsTrue (begins is_digit text.now) }
-    ensures { IsNumberFront text.now result.0 result.1.now }
+    ensures { IsFirstNumber text.now result.0 result.1.now }
 {
     match behind_prefix(text) {
         Some(behind) => {

@@ -1,3 +1,4 @@
+// Images are written and read back, and each fault of a file is told.
 ghost use Rattle.std.specs.Prelude.{◌≡◌, ◌<◌, IfOk, length};
 
 use frp_tree::List;

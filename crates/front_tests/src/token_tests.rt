@@ -1,3 +1,4 @@
+// Texts are cut into tokens, and each mark has its number.
 use efrp_syntax::{SyntaxFault, lex};
 use frp_tree::{Token, marks};
 use std::test::Fail;

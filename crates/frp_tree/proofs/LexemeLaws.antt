@@ -1,8 +1,14 @@
+-- Laws on what tokens are spelled as: the first byte of each, a number's value, and that a text spells one token at
+-- most.
 use Rattle.std.proofs.Common.{◌≡◌, ◌≢◌, ℕ, zero, suc, ◌≤◌, Bool, true, false, ◌&&◌, ◌||◌, not, ◌==◌, nat_le, List, [], ◌∷◌, ◌++◌, length, take, drop, Some, codes, slice_get, inl, inr, refl, sym, ap, subst, ◌∙◌, arith}
 use Rattle.std.specs.List.{list_all}
-use Rattle.std.proofs.lemmas.Bool.{and_parts, and_from, or_left, false≢true, leb-true, eq-eqb}
+use Rattle.std.specs.Str.{bytes_eq}
+use Rattle.std.proofs.lemmas.Bool.{and_parts, and_from, or_left, false≢true, leb-true}
 use Rattle.std.proofs.lemmas.List.{take_at, drop_at, append_cancel_right}
-use Rattle.std.proofs.lemmas.Option.{same_Some}
+use Rattle.std.proofs.lemmas.Option.{same_Some, slice_get_within, get_or_from_slice_get}
+use Rattle.std.proofs.lemmas.List.Elements.{All-weaker}
+use Rattle.std.proofs.lemmas.List.Sums.{AllPass-from_list_all, list_all-from_AllPass}
+use Rattle.std.proofs.lemmas.Slice.Eq.{bytes_eq-Decides}
 use Rattle.std.proofs.lemmas.Bool.Decides.{nat_tests}
 use Rattle.std.proofs.lemmas.List.Folds.{list_all-append}
 use Rattle.text_parts.specs.Bytes.{is_digit, is_letter, is_hex_digit, begins}
@@ -50,14 +56,13 @@ abbrev pub is_mark_start : ℕ → Bool
 is_mark_start b = not (is_word_byte b || is_blank b)
 
 pub weaker : (p q : ℕ → Bool) (xs : List ℕ) → ((b : ℕ) → p b ≡ true → q b ≡ true) → list_all p xs ≡ true → list_all q xs ≡ true
-weaker p q [] f h = refl
-weaker p q (x ∷ xs) f h = let (a, b) = and_parts (p x) (list_all p xs) h in and_from (q x) (list_all q xs) (f x a) (weaker p q xs f b)
+weaker p q xs f h = list_all-from_AllPass q xs (All-weaker (λ x. p x ≡ true) (λ x. q x ≡ true) f xs (AllPass-from_list_all p xs h))
 
--- Two fronts of one text that are equally long are one.
+-- Two prefixes of one text that are equally long are one.
 pub same_parts : (w v r s : List ℕ) → length v ≡ length w → v ++ s ≡ w ++ r → (v ≡ w) × (s ≡ r)
 same_parts w v r s l e = (sym (take_at v s (length w) l) ∙ ap (take (length w)) e ∙ take_at w r (length w) refl, sym (drop_at v s (length w) l) ∙ ap (drop (length w)) e ∙ drop_at w r (length w) refl)
 
--- Behind a front with such an end no front is longer of which each element passes.
+-- After a prefix with such an end no prefix is longer of which each element passes.
 pub longest_run : (p : ℕ → Bool) (w v r s : List ℕ) → list_all p v ≡ true → v ++ s ≡ w ++ r → begins p r ≡ false → length v ≤ length w
 longest_run p w [] r s a e n = omega arith
 longest_run p [] (b ∷ v) [] s a e n = cc
@@ -122,9 +127,7 @@ mark_start_begins (b ∷ bs) h = h
 
 -- What each item of a list passes, an item at a place does.
 pub all_at : {X : Type 0} (p : X → Bool) (xs : List X) (k : ℕ) (x : X) → list_all p xs ≡ true → slice_get xs k ≡ Some x → p x ≡ true
-all_at p [] k x h e = cc
-all_at p (y ∷ ys) zero x h e = ap p (same_Some x y (sym e)) ∙ (and_parts (p y) (list_all p ys) h).0
-all_at p (y ∷ ys) (suc k) x h e = all_at p ys k x (and_parts (p y) (list_all p ys) h).1 e
+all_at p xs k x h e = ap p (sym (get_or_from_slice_get xs k x x e)) ∙ AllPass-from_list_all p xs h k x (slice_get_within xs k x e)
 
 pub mark_begins : (w : List ℕ) (k : ℕ) → slice_get marks k ≡ Some w → Begins is_mark_start w
 mark_begins w k e = mark_start_begins w (all_at starts_mark marks k w refl e)
@@ -132,31 +135,20 @@ mark_begins w k e = mark_start_begins w (all_at starts_mark marks k w refl e)
 pub mark_length : (w : List ℕ) (k : ℕ) → slice_get marks k ≡ Some w → length w ≤ 2
 mark_length w k e = leb-true (length w) 2 (all_at (λ v. nat_le (length v) 2) marks k w refl e)
 
--- Whether two texts are one.
-abbrev pub same : List ℕ → List ℕ → Bool
-same [] [] = true
-same [] (b ∷ bs) = false
-same (a ∷ more) [] = false
-same (a ∷ more) (b ∷ bs) = a == b && same more bs
-
-pub same_refl : (w : List ℕ) → same w w ≡ true
-same_refl [] = refl
-same_refl (a ∷ more) = and_from (a == a) (same more more) (eq-eqb a a refl) (same_refl more)
-
 -- No two of the texts are one.
 abbrev all_differ : List (List ℕ) → Bool
 all_differ [] = true
-all_differ (x ∷ xs) = list_all (λ y. not (same x y)) xs && all_differ xs
+all_differ (x ∷ xs) = list_all (λ y. not (bytes_eq x y)) xs && all_differ xs
 
-unlike : (w : List ℕ) → not (same w w) ≡ true → ⊥
-unlike w h = false≢true (ap not (sym (same_refl w)) ∙ h)
+unlike : (w : List ℕ) → not (bytes_eq w w) ≡ true → ⊥
+unlike w h = false≢true (ap not (sym ((bytes_eq-Decides w w).1 refl)) ∙ h)
 
 one_place : (xs : List (List ℕ)) (j k : ℕ) (w : List ℕ) → all_differ xs ≡ true → slice_get xs j ≡ Some w → slice_get xs k ≡ Some w → j ≡ k
 one_place [] j k w d e f = cc
 one_place (x ∷ xs) zero zero w d e f = refl
-one_place (x ∷ xs) zero (suc k) w d e f = absurd (unlike w (ap (λ v. not (same v w)) (same_Some w x (sym e)) ∙ all_at (λ y. not (same x y)) xs k w (and_parts (list_all (λ y. not (same x y)) xs) (all_differ xs) d).0 f))
-one_place (x ∷ xs) (suc j) zero w d e f = absurd (unlike w (ap (λ v. not (same v w)) (same_Some w x (sym f)) ∙ all_at (λ y. not (same x y)) xs j w (and_parts (list_all (λ y. not (same x y)) xs) (all_differ xs) d).0 e))
-one_place (x ∷ xs) (suc j) (suc k) w d e f = ap suc (one_place xs j k w (and_parts (list_all (λ y. not (same x y)) xs) (all_differ xs) d).1 e f)
+one_place (x ∷ xs) zero (suc k) w d e f = absurd (unlike w (ap (λ v. not (bytes_eq v w)) (same_Some w x (sym e)) ∙ all_at (λ y. not (bytes_eq x y)) xs k w (and_parts (list_all (λ y. not (bytes_eq x y)) xs) (all_differ xs) d).0 f))
+one_place (x ∷ xs) (suc j) zero w d e f = absurd (unlike w (ap (λ v. not (bytes_eq v w)) (same_Some w x (sym f)) ∙ all_at (λ y. not (bytes_eq x y)) xs j w (and_parts (list_all (λ y. not (bytes_eq x y)) xs) (all_differ xs) d).0 e))
+one_place (x ∷ xs) (suc j) (suc k) w d e f = ap suc (one_place xs j k w (and_parts (list_all (λ y. not (bytes_eq x y)) xs) (all_differ xs) d).1 e f)
 
 pub same_mark : (j k : ℕ) (w : List ℕ) → slice_get marks j ≡ Some w → slice_get marks k ≡ Some w → j ≡ k
 same_mark j k w = one_place marks j k w refl
@@ -205,7 +197,7 @@ start_no_blank (token.Num n) b x y = blank_no_digit b y x
 start_no_blank (token.Wide n) b x y = blank_no_digit b y x
 start_no_blank (token.Mark k) b x y = mark_no_blank b x y
 
--- Two fronts of one text begin alike.
+-- Two prefixes of one text begin alike.
 pub apart : (p q : ℕ → Bool) (w v r s : List ℕ) → ((b : ℕ) → p b ≡ true → q b ≡ true → ⊥) → Begins p w → Begins q v → w ++ r ≡ v ++ s → ⊥
 apart p q w v r s f x y e = let (b, h, k) = same_begin p q w v r s x y e in f b h k
 
@@ -245,5 +237,5 @@ same_token (token.Wide n) (token.Mark k) w h l = absurd (other_kind is_digit is_
 same_token (token.Mark j) (token.Wide m) w h k = absurd (other_kind is_digit is_mark_start w digit_no_mark (lexeme_begins (token.Wide m) w k) (mark_begins w j h))
 
 -- A text that differs from each mark is none.
-pub no_mark : (w : List ℕ) → list_all (λ m. not (same m w)) marks ≡ true → (k : ℕ) → slice_get marks k ≡ Some w → ⊥
-no_mark w h k e = unlike w (all_at (λ m. not (same m w)) marks k w h e)
+pub no_mark : (w : List ℕ) → list_all (λ m. not (bytes_eq m w)) marks ≡ true → (k : ℕ) → slice_get marks k ≡ Some w → ⊥
+no_mark w h k e = unlike w (all_at (λ m. not (bytes_eq m w)) marks k w h e)

@@ -1,3 +1,4 @@
+-- Laws on the longest token: when a name, a number or a mark at the beginning of a text is the longest there.
 use Rattle.std.proofs.Common.{◌≡◌, ◌≢◌, ℕ, ◌+◌, ◌<◌, ◌≤◌, true, false, ◌==◌, List, [], ◌∷◌, ◌++◌, length, Some, codes, slice_get, ◌⊎◌, inl, inr, refl, sym, ap, subst, ◌∙◌, arith}
 use Rattle.std.specs.List.{list_all}
 use Rattle.std.proofs.lemmas.Bool.{false≢true, cases_lt, and_from}
@@ -6,7 +7,7 @@ use Rattle.std.proofs.lemmas.List.Folds.{list_all-append}
 use Rattle.text_parts.specs.Bytes.{is_digit, is_letter, is_hex_digit, begins}
 use Rattle.text_parts.specs.Numbers.{IsNumber}
 use Rattle.frp_tree.specs.Tokens.{marks, IsLexeme, IsLongest}
-use Rattle.frp_tree.specs.Fronts.{IsLongestNumber}
+use Rattle.frp_tree.specs.Prefixes.{IsLongestNumber}
 use Rattle.frp_tree.specs.declared.tokens.Token.{Token}
 use Rattle.frp_tree.specs.declared.tokens.Token.TheVariants as token
 use Rattle.frp_tree.proofs.LexemeLaws.{is_word_byte, is_number_byte, number_word, is_mark_start, Begins, weaker, same_parts, longest_run, word_begins, word_bytes, number_begins, number_bytes, mark_begins, mark_length, lexeme_begins, apart, letter_no_mark, digit_no_mark, digit_no_letter}
@@ -50,7 +51,7 @@ suffix_parts w ds rest other n long h e = go (cases_lt (length ds) (length w))
     go (inl l) = inl l
     go (inr l) = let equal : length ds ≡ length w = omega (arith, bound) in inr (sym (same_parts w ds rest (119 ∷ other) equal at).1)
 
--- A number behind which no suffix stands.
+-- A number after which no suffix stands.
 pub number_longest : (w rest : List ℕ) (n : ℕ) → IsNumber w n → IsLongestNumber w rest → begins (λ b. b == 119) rest ≡ false → IsLongest w rest
 number_longest w rest n h long s (token.Word name) v other l e = absurd (apart is_digit is_letter w v rest other digit_no_letter (number_begins w n h) (word_begins v l.0) (sym e))
 number_longest w rest n h long s (token.Num m) v other l e = long m v other l e
@@ -89,7 +90,7 @@ mark_alone w rest v other (token.Mark k) b l e = (k, l)
 pub two_longest : (a b : ℕ) (rest : List ℕ) (k : ℕ) → slice_get marks k ≡ Some (a ∷ b ∷ []) → IsLongest (a ∷ b ∷ []) rest
 two_longest a b rest k h t v other l e = let (j, m) = mark_alone (a ∷ b ∷ []) rest v other t (mark_begins (a ∷ b ∷ []) k h) l e in mark_length v j m
 
--- A mark of one byte that is no front of another.
+-- A mark of one byte that is no prefix of another.
 pub one_longest : (a : ℕ) (rest : List ℕ) (k : ℕ) → slice_get marks k ≡ Some (a ∷ []) → ((b : ℕ) (more : List ℕ) (j : ℕ) → rest ≡ b ∷ more → slice_get marks j ≡ Some (a ∷ b ∷ []) → ⊥) → IsLongest (a ∷ []) rest
 one_longest a rest k h none t v other l e = let (j, m) = mark_alone (a ∷ []) rest v other t (mark_begins (a ∷ []) k h) l e in go v j m e
   where

@@ -1,9 +1,10 @@
+-- Laws on tokens: a text is cut into them in one way, and has one fault at most, which leaves it without tokens.
 use Rattle.std.proofs.Common.{◌≡◌, ◌≢◌, ℕ, ◌+◌, ◌≤◌, Bool, true, false, ◌&&◌, List, [], ◌∷◌, ◌++◌, length, ◌⊎◌, inl, inr, refl, sym, ap, subst, ◌∙◌, arith}
 use Rattle.std.specs.List.{AllByRecursion}
 use Rattle.std.proofs.lemmas.Bool.{false≢true}
 use Rattle.std.proofs.lemmas.List.{append-nil}
 use Rattle.frp_tree.specs.Tokens.{is_blank, IsLexeme, is_number_token, starts_word, starts_comment, AtLineEnd, Cuts, here, blank, comment, lexeme, IsWithin, HasTokens, IsBadByte, IsTooBig}
-use Rattle.frp_tree.specs.Fronts.{IsBlank, IsComment, Skips, IsFront}
+use Rattle.frp_tree.specs.Prefixes.{IsBlank, IsComment, Skips, IsFirstToken}
 use Rattle.frp_tree.specs.declared.tokens.Token.{Token}
 use Rattle.frp_tree.proofs.LexemeLaws.{same_begin, lexeme_begins, lexeme_some, start_of, start_no_blank, same_token, same_parts}
 
@@ -11,7 +12,7 @@ use Rattle.frp_tree.proofs.LexemeLaws.{same_begin, lexeme_begins, lexeme_some, s
 pub data Opened (after : Bool) (text : List ℕ) (ts : List Token) (last : Bool) (rest : List ℕ) : Type 0 where
   stays : text ≡ rest → ts ≡ [] → after ≡ last → Opened after text ts last rest
   skips : (more : List ℕ) → Skips text more → Cuts false more ts last rest → Opened after text ts last rest
-  takes : (t : Token) (us : List Token) (more : List ℕ) → IsFront after text t more → ts ≡ t ∷ us → Cuts (is_number_token t) more us last rest → Opened after text ts last rest
+  takes : (t : Token) (us : List Token) (more : List ℕ) → IsFirstToken after text t more → ts ≡ t ∷ us → Cuts (is_number_token t) more us last rest → Opened after text ts last rest
 
 pub opened : {after last : Bool} {text rest : List ℕ} {ts : List Token} → Cuts after text ts last rest → Opened after text ts last rest
 opened here = stays refl refl refl
@@ -24,20 +25,20 @@ pub skip : {last : Bool} {rest : List ℕ} {ts : List Token} (after : Bool) (tex
 skip {last = last} {rest = rest} {ts = ts} after text more (inl s) c = subst (λ x. Cuts after x ts last rest) (sym s.spelled) (blank s.blank c)
 skip {last = last} {rest = rest} {ts = ts} after text more (inr s) c = subst (λ x. Cuts after x ts last rest) (sym s.spelled) (comment s.body more s.in_line s.ends c)
 
-pub take_front : {last : Bool} {rest : List ℕ} {ts : List Token} (after : Bool) (text more : List ℕ) (t : Token) → IsFront after text t more → Cuts (is_number_token t) more ts last rest → Cuts after text (t ∷ ts) last rest
-take_front {last = last} {rest = rest} {ts = ts} after text more t f c =
+pub take_token : {last : Bool} {rest : List ℕ} {ts : List Token} (after : Bool) (text more : List ℕ) (t : Token) → IsFirstToken after text t more → Cuts (is_number_token t) more ts last rest → Cuts after text (t ∷ ts) last rest
+take_token {last = last} {rest = rest} {ts = ts} after text more t f c =
     subst (λ x. Cuts after x (t ∷ ts) last rest) (sym f.spelled) (lexeme f.w more f.lexeme f.longest (ap starts_comment (sym f.spelled) ∙ f.no_comment) f.allowed c)
 
 -- A text begins in one way.
 
-blank_apart : (after : Bool) (text more rest : List ℕ) (t : Token) → IsBlank text more → IsFront after text t rest → ⊥
+blank_apart : (after : Bool) (text more rest : List ℕ) (t : Token) → IsBlank text more → IsFirstToken after text t rest → ⊥
 blank_apart after text more rest t s f =
     let (b, x, y) = same_begin (start_of t) is_blank f.w (s.byte ∷ []) rest more (lexeme_begins t f.w f.lexeme) s.blank (sym f.spelled ∙ s.spelled) in start_no_blank t b x y
 
 comment_starts : (text more : List ℕ) → IsComment text more → starts_comment text ≡ true
 comment_starts text more s = ap starts_comment s.spelled
 
-pub skip_apart : (after : Bool) (text more rest : List ℕ) (t : Token) → Skips text more → IsFront after text t rest → ⊥
+pub skip_apart : (after : Bool) (text more rest : List ℕ) (t : Token) → Skips text more → IsFirstToken after text t rest → ⊥
 skip_apart after text more rest t (inl s) f = blank_apart after text more rest t s f
 skip_apart after text more rest t (inr s) f = false≢true (sym f.no_comment ∙ comment_starts text more s)
 
@@ -58,8 +59,8 @@ skip_once text m n (inl s) (inr r) = absurd (blank_no_comment text m n s r)
 skip_once text m n (inr s) (inl r) = absurd (blank_no_comment text n m r s)
 skip_once text m n (inr s) (inr r) = one_line_end s.body r.body m n s.in_line r.in_line s.ends r.ends (cc (s.spelled, r.spelled))
 
-pub front_once : (a b : Bool) (text m n : List ℕ) (t u : Token) → IsFront a text t m → IsFront b text u n → (t ≡ u) × (m ≡ n)
-front_once a b text m n t u f g =
+pub one_first_token : (a b : Bool) (text m n : List ℕ) (t u : Token) → IsFirstToken a text t m → IsFirstToken b text u n → (t ≡ u) × (m ≡ n)
+one_first_token a b text m n t u f g =
     let e : f.w ++ m ≡ g.w ++ n = sym f.spelled ∙ g.spelled in
     let long : length g.w ≤ length f.w = f.longest u g.w n g.lexeme (sym e) in
     let short : length f.w ≤ length g.w = g.longest t f.w m f.lexeme e in
@@ -91,11 +92,11 @@ joined_skip more s c (stays e n a) go = joined_over _ _ _ _ _ _ _ _ c e n a
 joined_skip {end = end} {text = text} {other = other} {us = us} more s c (skips next r d) go = go (subst (λ x. Cuts false x us end other) (skip_once text next more r s) d)
 joined_skip {after = after} {text = text} more s c (takes t vs next f e d) go = absurd (skip_apart after text more next t s f)
 
-joined_front : {after last end : Bool} {text rest other : List ℕ} {ts us : List Token} (t : Token) (more : List ℕ) → IsFront after text t more → Cuts after text (t ∷ ts) last rest → Opened after text us end other → ((vs : List Token) → Cuts (is_number_token t) more vs end other → Joined last rest ts end other vs) → Joined last rest (t ∷ ts) end other us
-joined_front t more f c (stays e n a) go = joined_over _ _ _ _ _ _ _ _ c e n a
-joined_front {after = after} {text = text} t more f c (skips next r d) go = absurd (skip_apart after text next more t r f)
-joined_front {after = after} {end = end} {text = text} {other = other} {ts = ts} {us = us} t more f c (takes u vs next g e d) go =
-    let (k, m) = front_once after after text next more u t g f in
+joined_token : {after last end : Bool} {text rest other : List ℕ} {ts us : List Token} (t : Token) (more : List ℕ) → IsFirstToken after text t more → Cuts after text (t ∷ ts) last rest → Opened after text us end other → ((vs : List Token) → Cuts (is_number_token t) more vs end other → Joined last rest ts end other vs) → Joined last rest (t ∷ ts) end other us
+joined_token t more f c (stays e n a) go = joined_over _ _ _ _ _ _ _ _ c e n a
+joined_token {after = after} {text = text} t more f c (skips next r d) go = absurd (skip_apart after text next more t r f)
+joined_token {after = after} {end = end} {text = text} {other = other} {ts = ts} {us = us} t more f c (takes u vs next g e d) go =
+    let (k, m) = one_first_token after after text next more u t g f in
     let there : Cuts (is_number_token t) more vs end other = subst (λ x. Cuts (is_number_token t) x vs end other) m (subst (λ x. Cuts (is_number_token x) next vs end other) k d) in
     longer (go vs there) (e ∙ ap (λ x. x ∷ vs) k)
   where
@@ -107,7 +108,7 @@ pub joined : {after last end : Bool} {text rest other : List ℕ} {ts us : List 
 joined here d = joined_here _ _ _ _ _ d
 joined (blank {b = b} {bs = bs} e c) d = joined_skip bs (inl (record { byte = b; spelled = refl; blank = e })) (blank e c) (opened d) (λ q. joined c q)
 joined (comment body more a n c) d = joined_skip more (inr (record { body = body; spelled = refl; in_line = a; ends = n })) (comment body more a n c) (opened d) (λ q. joined c q)
-joined (lexeme {t = t} w more l n s a c) d = joined_front t more (record { w = w; spelled = refl; lexeme = l; longest = n; no_comment = s; allowed = a }) (lexeme w more l n s a c) (opened d) (λ vs q. joined c q)
+joined (lexeme {t = t} w more l n s a c) d = joined_token t more (record { w = w; spelled = refl; lexeme = l; longest = n; no_comment = s; allowed = a }) (lexeme w more l n s a c) (opened d) (λ vs q. joined c q)
 
 -- A cut of a whole text begins with each other cut of it.
 pub follow : {after last end : Bool} {text rest : List ℕ} {ts us : List Token} → Cuts after text ts last rest → Cuts after text us end [] → (vs : List Token) × Cuts last rest vs end [] × (us ≡ ts ++ vs)
@@ -139,20 +140,20 @@ bad_none text place ts bad h =
     let (vs, c, e) = follow bad.reached.cut h.2 in
     bad.some (bad_stops bad.after h.1 text bad.rest [] place vs bad refl refl (opened c)).0
 
-pub big_front : (text : List ℕ) (place : ℕ) → (big : IsTooBig text place) → IsFront big.after (big.w ++ big.more) big.t big.more
-big_front text place big = record { w = big.w; spelled = refl; lexeme = big.lexeme; longest = big.longest; no_comment = big.no_comment; allowed = big.allowed }
+pub first_too_big : (text : List ℕ) (place : ℕ) → (big : IsTooBig text place) → IsFirstToken big.after (big.w ++ big.more) big.t big.more
+first_too_big text place big = record { w = big.w; spelled = refl; lexeme = big.lexeme; longest = big.longest; no_comment = big.no_comment; allowed = big.allowed }
 
 all_middle : (P : Token → Type 0) (ts us : List Token) (t : Token) → AllByRecursion P (ts ++ t ∷ us) → P t
 all_middle P [] us t h = h.0
 all_middle P (x ∷ ts) us t h = all_middle P ts us t h.1
 
 -- What goes on at a token that is too big takes it.
-big_taken : (after last : Bool) (text bytes rest : List ℕ) (place : ℕ) (ts front : List Token) → (big : IsTooBig text place) → big.after ≡ after → big.w ++ big.more ≡ bytes → AllByRecursion IsWithin (front ++ ts) → Opened after bytes ts last rest → (bytes ≡ rest) × (ts ≡ []) × (after ≡ last)
-big_taken after last text bytes rest place ts front big a e all (stays f n s) = (f, n, s)
-big_taken after last text bytes rest place ts front big a e all (skips more s c) = absurd (skip_apart big.after (big.w ++ big.more) more big.more big.t (subst (λ x. Skips x more) (sym e) s) (big_front text place big))
-big_taken after last text bytes rest place ts front big a e all (takes t us more f g c) =
-    let (same, _) = front_once after big.after bytes more big.more t big.t f (subst (λ x. IsFront big.after x big.t big.more) e (big_front text place big)) in
-    absurd (big.past (subst IsWithin same (all_middle IsWithin front us t (subst (λ xs. AllByRecursion IsWithin (front ++ xs)) g all))))
+big_taken : (after last : Bool) (text bytes rest : List ℕ) (place : ℕ) (ts prefix : List Token) → (big : IsTooBig text place) → big.after ≡ after → big.w ++ big.more ≡ bytes → AllByRecursion IsWithin (prefix ++ ts) → Opened after bytes ts last rest → (bytes ≡ rest) × (ts ≡ []) × (after ≡ last)
+big_taken after last text bytes rest place ts prefix big a e all (stays f n s) = (f, n, s)
+big_taken after last text bytes rest place ts prefix big a e all (skips more s c) = absurd (skip_apart big.after (big.w ++ big.more) more big.more big.t (subst (λ x. Skips x more) (sym e) s) (first_too_big text place big))
+big_taken after last text bytes rest place ts prefix big a e all (takes t us more f g c) =
+    let (same, _) = one_first_token after big.after bytes more big.more t big.t f (subst (λ x. IsFirstToken big.after x big.t big.more) e (first_too_big text place big)) in
+    absurd (big.past (subst IsWithin same (all_middle IsWithin prefix us t (subst (λ xs. AllByRecursion IsWithin (prefix ++ xs)) g all))))
 
 -- A text with a token past the limits has no tokens within them.
 pub big_none : (text : List ℕ) (place : ℕ) (ts : List Token) → IsTooBig text place → HasTokens text ts → ⊥

@@ -1,7 +1,7 @@
-pub mod Fronts
 pub mod Limits
 pub mod Literals
 pub mod Names
+pub mod Prefixes
 pub mod Priorities
 pub mod Tokens
 pub mod Tree

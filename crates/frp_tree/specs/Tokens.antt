@@ -27,7 +27,7 @@ IsLexeme w (token.Num n) = IsNumber w n
 IsLexeme w (token.Wide n) = (digits : List ℕ) × (w ≡ digits ++ codes "w") × IsNumber digits n
 IsLexeme w (token.Mark k) = slice_get marks k ≡ Some w
 
--- No longer front of the text spells a token.
+-- No longer prefix of the text spells a token.
 abbrev pub IsLongest : List ℕ → List ℕ → Type 0
 IsLongest w rest = (t : Token) (longer other : List ℕ) → IsLexeme longer t → longer ++ other ≡ w ++ rest → length longer ≤ length w
 
@@ -79,7 +79,7 @@ pub record Reaches (text : List ℕ) (place : ℕ) (after : Bool) (rest : List �
   pub within : AllByRecursion IsWithin tokens
   pub at : length text ≡ place + length rest
 
--- No token, blank or comment begins at this place, or a name or a number begins there directly behind a
+-- No token, blank or comment begins at this place, or a name or a number begins there directly after a
 -- number.
 pub record IsBadByte (text : List ℕ) (place : ℕ) : Type 0 where
   pub after : Bool

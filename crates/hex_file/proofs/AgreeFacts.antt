@@ -72,7 +72,7 @@ given_of_gives records address byte agreed g = ⊎_elim
 pub none_given : (records : List HexRecord) (address : ℕ) → byte_given records address ≡ None → ¬ ((byte : ℕ) × GivesByte records address byte)
 none_given records address none g = some_given records g.1.source address g.0 g.1.among (given_by records address g.0 g.1) none
 
--- A record behind others.
+-- A record after others.
 
 first_same : (records : List HexRecord) (start b : ℕ) (payload : List ℕ) → other_at records start (b ∷ payload) ≡ None
     → (is_other (byte_given records start) b ≡ false) × (other_at records (start + 1) payload ≡ None)

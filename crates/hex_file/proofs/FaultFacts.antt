@@ -23,7 +23,7 @@ tests_then number line others =
 abbrev clash_fault : ℕ → Option ℕ → Option HexFault
 clash_fault number o = option_map (λ address. Clash number address) o
 
--- Behind an end record, and before one.
+-- After an end record, and before one.
 
 pub behind_end : (records : List HexRecord) (number : ℕ) (line : List ℕ) → has_end records ≡ true → line_fault records number line ≡ Some (AfterEnd number)
 behind_end records number line e = cond-true (has_end records) _ _ e

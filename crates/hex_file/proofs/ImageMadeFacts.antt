@@ -9,7 +9,7 @@ use Rattle.hex_file.specs.declared.images.Word.{Word}
 use Rattle.hex_file.specs.declared.images.Aside.{Aside}
 use Rattle.hex_file.specs.declared.images.Image.{Image}
 use Rattle.hex_file.specs.ImageOf.{HexRecord, IsAllowed, IsRecordLine, SpellsRecords, GivesByte, IsGiven, Agree, HasByte, GivesWord, AreProgramWords, AreBytesAside, IsImageOf}
-use Rattle.hex_file.proofs.GivenBytes.{IsFromPayload, IsFromRecords, given_bytes, gives_byte, word_at}
+use Rattle.hex_file.proofs.GivenByteFacts.{IsFromPayload, IsFromRecords, given_bytes, gives_byte, word_at}
 use Rattle.hex_file.proofs.ImageLaws.{held, holds_none, holds_first, holds_later}
 
 -- Whether a byte is given, and a word.

@@ -4,8 +4,8 @@ pub mod CheckFacts
 pub mod DigitFacts
 pub mod Examples
 pub mod FaultFacts
-pub mod FrontFacts
-pub mod GivenBytes
+pub mod ReadFacts
+pub mod GivenByteFacts
 pub mod GivenFacts
 pub mod ImageLaws
 pub mod ImageMadeFacts

@@ -65,7 +65,7 @@ snoc_same [] (b ∷ c ∷ ys) x y e = absurd cc
 snoc_same (a ∷ []) [] x y e = absurd cc
 snoc_same (a ∷ c ∷ xs) [] x y e = absurd cc
 snoc_same (a ∷ xs) (b ∷ ys) x y e =
-    let front : a ≡ b = cc in let tail : xs ++ x ∷ [] ≡ ys ++ y ∷ [] = cc in let rest : xs ≡ ys = snoc_same xs ys x y tail in cc
+    let prefix : a ≡ b = cc in let tail : xs ++ x ∷ [] ≡ ys ++ y ∷ [] = cc in let rest : xs ≡ ys = snoc_same xs ys x y tail in cc
 
 same_parts : (a b : ℕ) → a / 256 ≡ b / 256 → a % 256 ≡ b % 256 → a ≡ b
 same_parts a b high low = omega arith

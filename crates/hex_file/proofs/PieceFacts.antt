@@ -73,15 +73,15 @@ eights_flat (a ∷ b ∷ c ∷ d ∷ e ∷ f ∷ []) = refl
 eights_flat (a ∷ b ∷ c ∷ d ∷ e ∷ f ∷ g ∷ []) = refl
 eights_flat (a ∷ b ∷ c ∷ d ∷ e ∷ f ∷ g ∷ h ∷ rest) = ap (λ words. a ∷ b ∷ c ∷ d ∷ e ∷ f ∷ g ∷ h ∷ words) (eights_flat rest)
 
-front_of : (at : ℕ) (front rest : List Word) → Successive at (front ++ rest) → Successive at front
-front_of at [] rest follow = tt
-front_of at (w ∷ front) rest follow = (follow.0, front_of (at + 1) front rest follow.1)
+prefix_of : (at : ℕ) (prefix rest : List Word) → Successive at (prefix ++ rest) → Successive at prefix
+prefix_of at [] rest follow = tt
+prefix_of at (w ∷ prefix) rest follow = (follow.0, prefix_of (at + 1) prefix rest follow.1)
 
-rest_of : (at : ℕ) (front rest : List Word) → Successive at (front ++ rest) → Successive (at + length front) rest
+rest_of : (at : ℕ) (prefix rest : List Word) → Successive at (prefix ++ rest) → Successive (at + length prefix) rest
 rest_of at [] rest follow = subst (λ a. Successive a rest) (omega arith) follow
-rest_of at (w ∷ front) rest follow =
-    let further : at + 1 + length front ≡ at + length (w ∷ front) = omega arith in
-    subst (λ a. Successive a rest) further (rest_of (at + 1) front rest follow.1)
+rest_of at (w ∷ prefix) rest follow =
+    let further : at + 1 + length prefix ≡ at + length (w ∷ prefix) = omega arith in
+    subst (λ a. Successive a rest) further (rest_of (at + 1) prefix rest follow.1)
 
 run_of_successive : (at : ℕ) (words : List Word) → Successive at words → IsRun words
 run_of_successive at [] follow = tt
@@ -97,7 +97,7 @@ eights_are_pieces (a ∷ b ∷ c ∷ d ∷ e ∷ []) is = ((is, omega arith), tt
 eights_are_pieces (a ∷ b ∷ c ∷ d ∷ e ∷ f ∷ []) is = ((is, omega arith), tt)
 eights_are_pieces (a ∷ b ∷ c ∷ d ∷ e ∷ f ∷ g ∷ []) is = ((is, omega arith), tt)
 eights_are_pieces (a ∷ b ∷ c ∷ d ∷ e ∷ f ∷ g ∷ h ∷ rest) is = (
-  (front_of (a.address + 1) (b ∷ c ∷ d ∷ e ∷ f ∷ g ∷ h ∷ []) rest is, omega arith),
+  (prefix_of (a.address + 1) (b ∷ c ∷ d ∷ e ∷ f ∷ g ∷ h ∷ []) rest is, omega arith),
   eights_are_pieces rest (run_of_successive _ rest (rest_of (a.address + 1) (b ∷ c ∷ d ∷ e ∷ f ∷ g ∷ h ∷ []) rest is)),
 )
 

@@ -159,11 +159,11 @@ got_of_record : (r : HexRecord) (check : ℕ) → got_sum (record_bytes r check)
 got_of_record r check =
     ap (slice_index (record_bytes r check)) (let e : length r.payload + 4 ≡ suc (suc (suc (suc (length r.payload)))) = omega arith in e) ∙ at_append r.payload check
 
-front_of_record : (r : HexRecord) (check : ℕ)
+prefix_of_record : (r : HexRecord) (check : ℕ)
     → take (length r.payload + 4) (record_bytes r check) ≡ length r.payload ∷ r.address / 256 ∷ r.address % 256 ∷ r.kind ∷ r.payload
-front_of_record r check =
+prefix_of_record r check =
     ap (λ n. take n (record_bytes r check)) (let e : length r.payload + 4 ≡ suc (suc (suc (suc (length r.payload)))) = omega arith in e)
-    ∙ ap (λ front. length r.payload ∷ r.address / 256 ∷ r.address % 256 ∷ r.kind ∷ front) (take-append_seam r.payload (check ∷ []))
+    ∙ ap (λ prefix. length r.payload ∷ r.address / 256 ∷ r.address % 256 ∷ r.kind ∷ prefix) (take-append_seam r.payload (check ∷ []))
 
 record_of_bytes : (r : HexRecord) (check : ℕ) → record_in (record_bytes r check) ≡ r
 record_of_bytes r check =
@@ -175,11 +175,11 @@ right_sum : (r : HexRecord) (check : ℕ) → All (λ byte. byte < 256) (record_
     → has_bad_sum (record_bytes r check) ≡ false
 right_sum r check fit balanced =
     let bytes = record_bytes r check in
-    let front : List ℕ = take (length r.payload + 4) bytes in
+    let prefix : List ℕ = take (length r.payload + 4) bytes in
     let small : check < 256 = subst (λ c. c < 256) (got_of_record r check) (fit (length r.payload + 4) 0 (omega (arith, length_bytes r check))) in
-    let split : sum bytes ≡ sum front + check = sum_whole bytes (length r.payload + 4) (omega (arith, length_bytes r check)) ∙ ap (λ c. sum front + c) (got_of_record r check) in
-    let zero_sum : (sum front + check) % 256 ≡ 0 = ap (λ s. s % 256) (sym split) ∙ balanced in
-    not_from_true _ (eq-eqb _ _ (got_of_record r check ∙ check_byte_unique front check small zero_sum))
+    let split : sum bytes ≡ sum prefix + check = sum_whole bytes (length r.payload + 4) (omega (arith, length_bytes r check)) ∙ ap (λ c. sum prefix + c) (got_of_record r check) in
+    let zero_sum : (sum prefix + check) % 256 ≡ 0 = ap (λ s. s % 256) (sym split) ∙ balanced in
+    not_from_true _ (eq-eqb _ _ (got_of_record r check ∙ check_byte_unique prefix check small zero_sum))
 
 -- What is allowed passes the tests of a record.
 

@@ -1,5 +1,5 @@
--- The data records, taken one by one from the front: words at successive addresses, of which there are
--- eight or behind which the next address is missing, make the first record.
+-- The data records, taken one by one from the beginning: words at successive addresses, of which there are
+-- eight or after which the next address is missing, make the first record.
 use Rattle.std.proofs.Common.{◌≡◌, ◌≢◌, ℕ, zero, suc, ◌+◌, ◌-◌, ◌<◌, ◌≤◌, List, [], ◌∷◌, ◌++◌, length, take, drop, get_or, refl, sym, ap, ◌∙◌, ⊎_elim, arith, eq-eqb, ne_eqb, append_assoc, append-nil, add-one, sub-one, length-take}
 use Rattle.std.proofs.lemmas.Bool.{cases_lt, cases_eq}
 use Rattle.std.proofs.lemmas.List.{get_or_default}
@@ -38,7 +38,7 @@ eights_short w (a ∷ b ∷ c ∷ d ∷ e ∷ f ∷ []) few = refl
 eights_short w (a ∷ b ∷ c ∷ d ∷ e ∷ f ∷ g ∷ []) few = refl
 eights_short w (a ∷ b ∷ c ∷ d ∷ e ∷ f ∷ g ∷ h ∷ ws) few = absurd (omega arith)
 
-eights-append : (w : Word) (front rest : List Word) → length front ≡ 7 → eights (w ∷ (front ++ rest)) ≡ (w ∷ front) ∷ eights rest
+eights-append : (w : Word) (prefix rest : List Word) → length prefix ≡ 7 → eights (w ∷ (prefix ++ rest)) ≡ (w ∷ prefix) ∷ eights rest
 eights-append w [] rest seven = absurd (omega arith)
 eights-append w (a ∷ []) rest seven = absurd (omega arith)
 eights-append w (a ∷ b ∷ []) rest seven = absurd (omega arith)
@@ -77,7 +77,7 @@ before_runs_begins w ((v ∷ vs) ∷ runs) = ⊎_elim
 runs_begin : (w : Word) (ws : List Word) → Begins w (runs_of (w ∷ ws))
 runs_begin w ws = before_runs_begins w (runs_of ws)
 
--- Where the next address is missing behind n words, they are the first run.
+-- Where the next address is missing after n words, they are the first run.
 runs_stop : (w : Word) (ws : List Word) (n : ℕ) (d : Word) → n ≤ length ws → Follow (w ∷ ws) (suc n)
     → (n < length ws → (get_or ws n d).address ≢ (get_or (w ∷ ws) n d).address + 1)
     → runs_of (w ∷ ws) ≡ (w ∷ take n ws) ∷ runs_of (drop n ws)
@@ -91,7 +91,7 @@ runs_stop w (v ∷ vs) (suc n) d within follow apart =
     ap (before_runs w) (runs_stop v vs n d (omega arith) (λ k e below. follow (suc k) e (omega arith)) (λ below. apart (omega arith)))
     ∙ before_runs_next w v (take n vs) (runs_of (drop n vs)) (follow 0 w (omega arith))
 
--- Where it is there, the first run goes on with the run behind them.
+-- Where it is there, the first run goes on with the run after them.
 runs_go_on : (w : Word) (ws : List Word) (n : ℕ) (d : Word) → n < length ws → Follow (w ∷ ws) (suc (suc n))
     → (others : List Word) (behind : List (List Word)) → runs_of (drop n ws) ≡ (get_or ws n d ∷ others) ∷ behind
     → runs_of (w ∷ ws) ≡ (w ∷ (take n ws ++ get_or ws n d ∷ others)) ∷ behind

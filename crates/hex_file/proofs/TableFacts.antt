@@ -6,9 +6,9 @@ use Rattle.std.specs.Option.{option_to_list}
 use Rattle.std.proofs.lemmas.Bool.{cases_lt}
 use Rattle.std.proofs.lemmas.Option.{same_Some}
 use Rattle.std.proofs.lemmas.List.{get_or_append_left, get_or_default, get_or-map, length-map, map-append}
-use Rattle.std.proofs.lemmas.List.Elements.{Contains-append_cases, Contains-append_left, Contains-append_right}
+use Rattle.std.proofs.lemmas.List.Elements.{Contains-append_left, Contains-push, Contains-push_cases}
 use Rattle.std.proofs.Math.Seq.{get_or-append_seam}
-use Rattle.hex_file.proofs.ImageLaws.{held, holds_none, holds_first}
+use Rattle.hex_file.proofs.ImageLaws.{holds_none}
 use Rattle.hex_file.specs.Tables.{IsTable, items_below}
 
 -- The items below a limit, one more.
@@ -83,22 +83,17 @@ module _ {X : Type 0} (key : X → ℕ) (item : ℕ → Option X) (keyed : (n : 
     rising = listed.rising;
   }
 
-  last_of : (xs : List X) (y x : X) → Contains (xs ++ y ∷ []) x → Contains xs x ⊎ (y ≡ x)
-  last_of xs y x among = ⊎_elim (λ before. inl before)
-      (λ last. inr (⊎_elim (λ e. e) (λ none. absurd (holds_none x none)) (held y x [] last)))
-      (Contains-append_cases xs (y ∷ []) x among)
-
   listed_more : (n : ℕ) (xs : List X) (y : X) → item n ≡ Some y → Listed n xs → Listed (suc n) (xs ++ y ∷ [])
   listed_more n xs y is listed = record {
     sound = λ x among. ⊎_elim
         (λ before. let s = listed.sound x before in (omega (arith, s.0), s.1))
         (λ last. subst (λ x. (key x < suc n) × (item (key x) ≡ Some x)) last (omega (arith, keyed n y is), ap item (keyed n y is) ∙ is))
-        (last_of xs y x among);
+        (Contains-push_cases xs y x among);
     complete = λ k x below at. ⊎_elim
         (λ less. Contains-append_left xs (y ∷ []) x (listed.complete k x less at))
         (λ last.
         let same : y ≡ x = same_Some y x (sym is ∙ ap item (sym last) ∙ at) in
-        subst (Contains (xs ++ y ∷ [])) same (Contains-append_right xs (y ∷ []) y (holds_first y [])))
+        subst (Contains (xs ++ y ∷ [])) same (Contains-push xs y))
         (below_next n k below);
     rising = subst IsStrictlyIncreasing (sym (map-append key xs (y ∷ [])))
         (rising_more (map key xs) (key y) listed.rising

@@ -13,8 +13,8 @@ use Rattle.hex_file.specs.declared.images.Word.{Word}
 use Rattle.hex_file.specs.declared.images.Aside.{Aside}
 use Rattle.hex_file.specs.declared.images.Image.{Image}
 use Rattle.hex_file.proofs.AgreeFacts.{gives, given_by, gives_of_given, given_of_gives, none_given}
-use Rattle.hex_file.proofs.FrontFacts.{end_more, init_of_more, ends_none}
-use Rattle.hex_file.proofs.GivenBytes.{word_at as one_word}
+use Rattle.hex_file.proofs.ReadFacts.{end_more, init_of_more, ends_none}
+use Rattle.hex_file.proofs.GivenByteFacts.{word_at as one_word}
 use Rattle.hex_file.proofs.GivenFacts.{given_more, or_none, byte_of_other}
 use Rattle.hex_file.proofs.ImageMadeFacts.{given_below}
 use Rattle.hex_file.proofs.TableFacts.{Listed, listed, some_or_none}
@@ -169,27 +169,27 @@ module _ (records : List HexRecord) (table : List (Option ℕ)) (is : IsTable re
 -- The records of a file and its end record.
 
 record HasLast (all : List HexRecord) : Type 0 where
-  front : List HexRecord
+  prefix : List HexRecord
   last : HexRecord
-  split : all ≡ front ++ last ∷ []
+  split : all ≡ prefix ++ last ∷ []
 
 has_last : (r : HexRecord) (records : List HexRecord) → HasLast (r ∷ records)
-has_last r [] = record { front = []; last = r; split = refl }
-has_last r (s ∷ records) = let rest = has_last s records in record { front = r ∷ rest.front; last = rest.last; split = ap (λ rs. r ∷ rs) rest.split }
+has_last r [] = record { prefix = []; last = r; split = refl }
+has_last r (s ∷ records) = let rest = has_last s records in record { prefix = r ∷ rest.prefix; last = rest.last; split = ap (λ rs. r ∷ rs) rest.split }
 
 ends_with : (all : List HexRecord) → has_end all ≡ true → HasLast all
 ends_with [] e = absurd cc
 ends_with (r ∷ records) e = has_last r records
 
-agree_front : (front : List HexRecord) (last : HexRecord) → Agree (front ++ last ∷ []) → Agree front
-agree_front front last agreed address first second a b = agreed address first second
-    (gives (front ++ last ∷ []) a.source address first (Contains-append_left front (last ∷ []) a.source a.among) (given_by front address first a))
-    (gives (front ++ last ∷ []) b.source address second (Contains-append_left front (last ∷ []) b.source b.among) (given_by front address second b))
+agree_prefix : (prefix : List HexRecord) (last : HexRecord) → Agree (prefix ++ last ∷ []) → Agree prefix
+agree_prefix prefix last agreed address first second a b = agreed address first second
+    (gives (prefix ++ last ∷ []) a.source address first (Contains-append_left prefix (last ∷ []) a.source a.among) (given_by prefix address first a))
+    (gives (prefix ++ last ∷ []) b.source address second (Contains-append_left prefix (last ∷ []) b.source b.among) (given_by prefix address second b))
 
-table_front : (front : List HexRecord) (last : HexRecord) (table : List (Option ℕ)) → last.kind ≡ 1 → IsTable (front ++ last ∷ []) table → IsTable front table
-table_front front last table ended is = record {
+table_prefix : (prefix : List HexRecord) (last : HexRecord) (table : List (Option ℕ)) → last.kind ≡ 1 → IsTable (prefix ++ last ∷ []) table → IsTable prefix table
+table_prefix prefix last table ended is = record {
   size = is.size;
-  at = λ address below. is.at address below ∙ given_more front last address ∙ ap (option_or (byte_given front address)) (no_byte address) ∙ or_none (byte_given front address);
+  at = λ address below. is.at address below ∙ given_more prefix last address ∙ ap (option_or (byte_given prefix address)) (no_byte address) ∙ or_none (byte_given prefix address);
 }
   where
     no_byte : (address : ℕ) → byte_of last address ≡ None
@@ -200,18 +200,18 @@ pub image_of_table : (bytes : List ℕ) (table : List (Option ℕ)) (image : Ima
     → IsImageOf bytes image
 image_of_table bytes table image given words config aside =
     let all : HasLast given.records = ends_with given.records (sym given.is_end) in
-    let faultless : AreFaultless (lines bytes) (all.front ++ all.last ∷ []) = subst (AreFaultless (lines bytes)) all.split given.faultless in
-    let once : All (λ r. r.kind ≢ 1) all.front = subst (All (λ r. r.kind ≢ 1)) (init_of_more all.front all.last) faultless.once in
+    let faultless : AreFaultless (lines bytes) (all.prefix ++ all.last ∷ []) = subst (AreFaultless (lines bytes)) all.split given.faultless in
+    let once : All (λ r. r.kind ≢ 1) all.prefix = subst (All (λ r. r.kind ≢ 1)) (init_of_more all.prefix all.last) faultless.once in
     let ended : all.last.kind ≡ 1 =
-    eqb-true _ _ (sym (end_more all.front all.last (ends_none all.front once)) ∙ ap has_end (sym all.split) ∙ sym given.is_end) in
-    let agreed : Agree all.front = agree_front all.front all.last faultless.agreed in
-    let is : IsTable all.front table = table_front all.front all.last table ended (subst (λ rs. IsTable rs table) all.split given.given) in
-    let spelled : SpellsRecords bytes all.front = record { end = all.last; lines = faultless.spelled; ended = ended; once = once } in
+    eqb-true _ _ (sym (end_more all.prefix all.last (ends_none all.prefix once)) ∙ ap has_end (sym all.split) ∙ sym given.is_end) in
+    let agreed : Agree all.prefix = agree_prefix all.prefix all.last faultless.agreed in
+    let is : IsTable all.prefix table = table_prefix all.prefix all.last table ended (subst (λ rs. IsTable rs table) all.split given.given) in
+    let spelled : SpellsRecords bytes all.prefix = record { end = all.last; lines = faultless.spelled; ended = ended; once = once } in
     record {
-      records = all.front;
+      records = all.prefix;
       spelled = spelled;
       agreed = agreed;
-      words = words_are all.front table is agreed image.words words;
-      config = config_is all.front table is agreed image.config config;
-      aside = bytes_are all.front table is agreed image.aside (λ address byte g. given_below bytes all.front address byte spelled g) aside;
+      words = words_are all.prefix table is agreed image.words words;
+      config = config_is all.prefix table is agreed image.config config;
+      aside = bytes_are all.prefix table is agreed image.aside (λ address byte g. given_below bytes all.prefix address byte spelled g) aside;
     }

@@ -1,4 +1,4 @@
--- The lines of a text of records: bytes in two digits behind a colon, each line ended by LF.
+-- The lines of a text of records: bytes in two digits after a colon, each line ended by LF.
 use Rattle.std.proofs.Common.{◌≡◌, ℕ, zero, suc, ◌-◌, ◌/◌, ◌%◌, ◌<◌, ◌==◌, false, true, List, [], ◌∷◌, ◌++◌, length, nat_lt, refl, sym, ◌∙◌, ap, codes, slice_index, cond, append_assoc, arith}
 use Rattle.std.proofs.lemmas.Bool.Decides.{nat_tests}
 use Rattle.std.proofs.lemmas.List.Splits.{slice_split_at}
@@ -45,11 +45,11 @@ line_no_ending : (e : ℕ) → e < 48 → (bytes : List ℕ) → All (λ byte. b
 line_no_ending e low bytes fit zero d below = grind (arith, nat_tests)
 line_no_ending e low bytes fit (suc k) d below = digits_no_ending e low bytes fit k d (omega arith)
 
-lines_before : (front : List ℕ) (parts : List (List ℕ)) → HasParts parts → strip_carriage_return front ≡ front
-    → lines_of_parts (front ∷ parts) ≡ front ∷ lines_of_parts parts
-lines_before front parts has whole = ap (λ parts. lines_of_parts (front ∷ parts)) has.is ∙ (λ i. whole i ∷ lines_of_parts (sym has.is i))
+lines_before : (prefix : List ℕ) (parts : List (List ℕ)) → HasParts parts → strip_carriage_return prefix ≡ prefix
+    → lines_of_parts (prefix ∷ parts) ≡ prefix ∷ lines_of_parts parts
+lines_before prefix parts has whole = ap (λ parts. lines_of_parts (prefix ∷ parts)) has.is ∙ (λ i. whole i ∷ lines_of_parts (sym has.is i))
 
-stays_whole : (front : List ℕ) → All (λ d. (d == 13) ≡ false) front → strip_carriage_return front ≡ front
+stays_whole : (prefix : List ℕ) → All (λ d. (d == 13) ≡ false) prefix → strip_carriage_return prefix ≡ prefix
 stays_whole [] none = refl
 stays_whole (x ∷ xs) none = let last : (slice_index (x ∷ xs) (length (x ∷ xs) - 1) == 13) ≡ false = none (length (x ∷ xs) - 1) 0 (omega arith) in rw last
 

@@ -13,7 +13,7 @@ use Rattle.hex_file.specs.declared.faults.HexFault.TheVariants.{Clash}
 use Rattle.hex_file.specs.declared.images.Image.{Image}
 use Rattle.hex_file.proofs.AgreeFacts.{agree_more, agree_no_clash}
 use Rattle.hex_file.proofs.FaultFacts.{clash_alone}
-use Rattle.hex_file.proofs.FrontFacts.{filled, filled_one, end_more, ends_none, init_of_more}
+use Rattle.hex_file.proofs.ReadFacts.{filled, filled_one, end_more, ends_none, init_of_more}
 use Rattle.hex_file.proofs.GivenFacts.{clash_of_other}
 use Rattle.hex_file.proofs.LineFacts.{records_of_lines}
 
@@ -25,26 +25,26 @@ record HasLine (before : List HexRecord) (line : List ℕ) (all : List HexRecord
   pub split : all ≡ before ++ found ∷ after
   pub is : IsRecordLine line found
 
-zip_at : (front : List (List ℕ)) (line : List ℕ) (back : List (List ℕ)) (before all : List HexRecord) → AllZip IsRecordLine front before
-    → AllZip IsRecordLine (front ++ line ∷ back) all → HasLine before line all
+zip_at : (prefix : List (List ℕ)) (line : List ℕ) (back : List (List ℕ)) (before all : List HexRecord) → AllZip IsRecordLine prefix before
+    → AllZip IsRecordLine (prefix ++ line ∷ back) all → HasLine before line all
 zip_at [] line back [] [] zipped every = absurd every
 zip_at [] line back [] (r ∷ all) zipped every = record { found = r; after = all; split = refl; is = every.0 }
 zip_at [] line back (s ∷ before) all zipped every = absurd zipped
-zip_at (l ∷ front) line back [] all zipped every = absurd zipped
-zip_at (l ∷ front) line back (s ∷ before) [] zipped every = absurd every
-zip_at (l ∷ front) line back (s ∷ before) (r ∷ all) zipped every =
-    let rest : HasLine before line all = zip_at front line back before all zipped.1 every.1 in
+zip_at (l ∷ prefix) line back [] all zipped every = absurd zipped
+zip_at (l ∷ prefix) line back (s ∷ before) [] zipped every = absurd every
+zip_at (l ∷ prefix) line back (s ∷ before) (r ∷ all) zipped every =
+    let rest : HasLine before line all = zip_at prefix line back before all zipped.1 every.1 in
     let same : (s ∷ []) ≡ (r ∷ []) = records_of_lines (l ∷ []) (s ∷ []) (r ∷ []) (zipped.0, tt) (every.0, tt) in
     let first : r ≡ s = cc in
     record { found = rest.found; after = rest.after; split = ap (λ rs. r ∷ rs) rest.split ∙ ap (λ s. s ∷ (before ++ rest.found ∷ rest.after)) first; is = rest.is }
 
 line_at : (texts before : List (List ℕ)) (line : List ℕ) (after : List (List ℕ)) (all records : List HexRecord) → AreFaultless texts all
     → texts ≡ before ++ line ∷ after → 0 < length line → AreFaultless before records → HasLine records line all
-line_at texts before line after all records every split some front =
+line_at texts before line after all records every split some prefix =
     let joined : filled (before ++ line ∷ after) ≡ filled before ++ line ∷ filled after =
     filter-append (λ line. nat_lt 0 (length line)) before (line ∷ after)
     ∙ ap (λ more. filled before ++ more) (filter-append (λ line. nat_lt 0 (length line)) (line ∷ []) after ∙ ap (λ one. one ++ filled after) (filled_one line some)) in
-    zip_at (filled before) line (filled after) records all front.spelled
+    zip_at (filled before) line (filled after) records all prefix.spelled
     (subst (λ texts. AllZip IsRecordLine texts all) (ap filled split ∙ joined) every.spelled)
 
 -- Records before another one aren't the last.
@@ -62,8 +62,8 @@ before_last before r after once k d below =
 -- A line before the end of lines without a fault has none.
 no_fault_at : (texts before : List (List ℕ)) (line : List ℕ) (after : List (List ℕ)) (all records : List HexRecord) (number : ℕ) → AreFaultless texts all
     → texts ≡ before ++ line ∷ after → 0 < length line → AreFaultless before records → line_fault records number line ≡ None
-no_fault_at texts before line after all records number every split some front =
-    let at : HasLine records line all = line_at texts before line after all records every split some front in
+no_fault_at texts before line after all records number every split some prefix =
+    let at : HasLine records line all = line_at texts before line after all records every split some prefix in
     let agreed : Agree (records ++ at.found ∷ at.after) = subst Agree at.split every.agreed in
     let once : All (λ r. r.kind ≢ 1) (take (length (records ++ at.found ∷ at.after) - 1) (records ++ at.found ∷ at.after)) =
     subst (λ all. All (λ r. r.kind ≢ 1) (take (length all - 1) all)) at.split every.once in
@@ -91,7 +91,7 @@ two_splits (z ∷ xs) x xs' (w ∷ ys) y ys' e =
     let first : z ≡ w = cc in
     let rest : xs ++ x ∷ xs' ≡ ys ++ y ∷ ys' = cc in
     ⊎_elim
-    (λ same. let front : z ∷ xs ≡ w ∷ ys = cc (same.0, first) in inl (front, same.1))
+    (λ same. let prefix : z ∷ xs ≡ w ∷ ys = cc (same.0, first) in inl (prefix, same.1))
     (λ other. inr (⊎_elim
     (λ (behind : IsBehind x xs ys). inl (record { more = behind.more; split = ap (λ ys. w ∷ ys) behind.split ∙ ap (λ w. w ∷ (xs ++ x ∷ behind.more)) (sym first) }))
     (λ (behind : IsBehind y ys xs). inr (record { more = behind.more; split = ap (λ xs. z ∷ xs) behind.split ∙ ap (λ z. z ∷ (ys ++ y ∷ behind.more)) first }))
@@ -105,8 +105,8 @@ same_line : (bytes : List ℕ) (f g : HexFault) → IsOfFirstLine bytes f → Is
 unfolding Splits
 same_line bytes f g a b = ⊎_elim
     (λ same.
-    let front : AreFaultless b.before a.records = subst (λ before. AreFaultless before a.records) same.0 a.faultless in
-    let records : a.records ≡ b.records = same_records b.before a.records b.records front b.faultless in
+    let prefix : AreFaultless b.before a.records = subst (λ before. AreFaultless before a.records) same.0 a.faultless in
+    let records : a.records ≡ b.records = same_records b.before a.records b.records prefix b.faultless in
     let told : line_fault a.records (length a.before + 1) a.line ≡ line_fault b.records (length b.before + 1) b.line = cc (same.0, same.1, records) in
     same_Some _ _ (sym a.told ∙ told ∙ b.told))
     (λ apart. ⊎_elim

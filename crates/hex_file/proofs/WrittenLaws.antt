@@ -7,7 +7,7 @@ use Rattle.hex_file.specs.declared.images.Word.{Word}
 use Rattle.hex_file.specs.declared.images.Image.{Image}
 use Rattle.hex_file.specs.ImageOf.{GivesByte, Agree, GivesWord, AreBytesAside, IsImageOf}
 use Rattle.hex_file.specs.Written.{IsWritable, RisesFrom, word_bytes, written}
-use Rattle.hex_file.proofs.GivenBytes.{IsFromPayload, IsFromRecords, given_bytes, gives_byte, word_at}
+use Rattle.hex_file.proofs.GivenByteFacts.{IsFromPayload, IsFromRecords, given_bytes, gives_byte, word_at}
 use Rattle.hex_file.proofs.ImageLaws.{held, holds_none, holds_first, holds_later}
 use Rattle.hex_file.proofs.ImageMadeFacts.{rising_from}
 use Rattle.hex_file.proofs.PieceFacts.{IsPiece, Successive, flat, all_append}

@@ -154,9 +154,9 @@ piece_is_written (w ∷ ws) is all = record {
   bytes = words_fit (w ∷ ws) all;
 }
 
-all_front : {X : Type 0} (P : X → Type 0) (xs ys : List X) → AllByRecursion P (xs ++ ys) → AllByRecursion P xs
-all_front P [] ys all = tt
-all_front P (x ∷ xs) ys all = (all.0, all_front P xs ys all.1)
+all_prefix : {X : Type 0} (P : X → Type 0) (xs ys : List X) → AllByRecursion P (xs ++ ys) → AllByRecursion P xs
+all_prefix P [] ys all = tt
+all_prefix P (x ∷ xs) ys all = (all.0, all_prefix P xs ys all.1)
 
 all_behind : {X : Type 0} (P : X → Type 0) (xs ys : List X) → AllByRecursion P (xs ++ ys) → AllByRecursion P ys
 all_behind P [] ys all = all
@@ -165,7 +165,7 @@ all_behind P (x ∷ xs) ys all = all_behind P xs ys all.1
 pieces_are_written : (pieces : List (List Word)) → AllByRecursion IsPiece pieces → AllByRecursion Fits (flat pieces) → AllByRecursion IsWritten (map record_for pieces)
 pieces_are_written [] are all = tt
 pieces_are_written (piece ∷ pieces) are all =
-    (piece_is_written piece are.0 (all_front Fits piece (flat pieces) all), pieces_are_written pieces are.1 (all_behind Fits piece (flat pieces) all))
+    (piece_is_written piece are.0 (all_prefix Fits piece (flat pieces) all), pieces_are_written pieces are.1 (all_behind Fits piece (flat pieces) all))
 
 upper_is_written : IsWritten upper
 upper_is_written = record {

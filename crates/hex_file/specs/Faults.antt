@@ -1,3 +1,4 @@
+-- The first fault of a file, by lines, and in which order the tests of a line come.
 use Rattle.std.specs.Prelude.{◌≡◌, ◌≢◌, ℕ, ◌<◌, ◌+◌, ◌-◌, ◌*◌, ◌%◌, ◌⊎◌, Bool, false, not, ◌&&◌, ◌||◌, ◌==◌, nat_lt, nat_le, if◌then◌else◌, List, [], ◌∷◌, ◌++◌, length, take, drop, Option, Some, None, Result, Ok, Err, slice_index, slice_get}
 use Rattle.std.specs.List.{All, AllZip, filter, list_all, list_any}
 use Rattle.std.specs.Option.{option_map, option_or}
@@ -16,7 +17,7 @@ spelled_bytes [] = []
 spelled_bytes (high ∷ []) = []
 spelled_bytes (high ∷ low ∷ digits) = (16 * digit_value high + digit_value low) ∷ spelled_bytes digits
 
--- A line's bytes, behind its colon.
+-- A line's bytes, after its colon.
 abbrev pub bytes_of : List ℕ → List ℕ
 bytes_of line = spelled_bytes (drop 1 line)
 
@@ -44,7 +45,7 @@ want_sum bytes = check_byte (take (told_length bytes + 4) bytes)
 abbrev pub has_end : List HexRecord → Bool
 has_end records = list_any (λ r. r.kind == 1) records
 
--- The line's first byte isn't a colon, or one behind it isn't a hexadecimal digit.
+-- The line's first byte isn't a colon, or one after it isn't a hexadecimal digit.
 abbrev pub has_bad_char : List ℕ → Bool
 has_bad_char line = not (slice_index line 0 == 58) || not (list_all is_hex_digit (drop 1 line))
 
@@ -138,7 +139,7 @@ pub record IsNoEnd (bytes : List ℕ) (fault : HexFault) : Type 0 where
 abbrev pub FirstFault : List ℕ → HexFault → Type 0
 FirstFault bytes fault = IsOfFirstLine bytes fault ⊎ IsNoEnd bytes fault
 
--- The answer of the reader is this image, or want of memory; it is this fault, or want of memory.
+-- The answer of the reader is this image, or out of memory; it is this fault, or out of memory.
 abbrev pub IsReadAs : Image → Result Image HexFault → Type 0
 IsReadAs image (Ok told) = told ≡ image
 IsReadAs image (Err fault) = fault ≡ Memory

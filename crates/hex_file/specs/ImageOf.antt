@@ -1,3 +1,4 @@
+-- Which image a file means (Intel, Hexadecimal Object File Format Specification).
 use Rattle.std.specs.Prelude.{◌≡◌, ◌≢◌, ℕ, ◌<◌, ◌≤◌, ◌+◌, ◌*◌, ◌/◌, ◌%◌, ◌⊎◌, ◌↔◌, List, [], ◌∷◌, ◌++◌, length, map, sum, Some, codes, nat_lt, slice_get}
 use Rattle.std.specs.List.{All, AllZip, Contains, filter, flat_map}
 use Rattle.std.specs.List.Sorted.{IsStrictlyIncreasing}
@@ -41,7 +42,7 @@ pub record IsRecordLine (line : List ℕ) (r : HexRecord) : Type 0 where
 abbrev pub nonempty_lines : List ℕ → List (List ℕ)
 nonempty_lines bytes = filter (λ line. nat_lt 0 (length line)) (lines bytes)
 
--- The lines that aren't empty are those of these records and of an end record (01) behind them, the only one.
+-- The lines that aren't empty are those of these records and of an end record (01) after them, the only one.
 pub record SpellsRecords (bytes : List ℕ) (records : List HexRecord) : Type 0 where
   pub end : HexRecord
   pub lines : AllZip IsRecordLine (nonempty_lines bytes) (records ++ end ∷ [])

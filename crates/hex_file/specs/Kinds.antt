@@ -1,3 +1,4 @@
+-- The numbers of the types of records.
 use Rattle.std.specs.Prelude.{ℕ}
 use Rattle.hex_file.specs.declared.records.Kind.{Kind}
 use Rattle.hex_file.specs.declared.records.Kind.TheVariants.{Data, EndOfFile, LinearAddress}

@@ -1,10 +1,11 @@
+-- The one written form of an image, and which images have it.
 use Rattle.std.specs.Prelude.{◌==◌, ℕ, ◌<◌, ◌≤◌, ◌+◌, ◌-◌, ◌*◌, ◌/◌, ◌%◌, List, [], ◌∷◌, ◌++◌, length, sum, Option, Some, None, IfSome, codes, if◌then◌else◌}
 use Rattle.std.specs.List.{flat_map}
 use Rattle.text_parts.specs.Digits.{hex2}
 use Rattle.hex_file.specs.declared.images.Word.{Word}
 use Rattle.hex_file.specs.declared.images.Image.{Image}
 
--- A record: its bytes, each in two digits, behind a colon.
+-- A record: its bytes, each in two digits, after a colon.
 abbrev pub line : List ℕ → List ℕ
 line bytes = codes ":" ++ (flat_map hex2 bytes ++ codes "\n")
 
@@ -27,7 +28,7 @@ abbrev pub words_record : List Word → List ℕ
 words_record [] = []
 words_record (w ∷ ws) = record_of 0 (2 * w.address) (flat_map (λ v. word_bytes v.word) (w ∷ ws))
 
--- A word before the runs of the words behind it: it belongs to the first run where that begins at the
+-- A word before the runs of the words after it: it belongs to the first run where that begins at the
 -- next address, and is a run of its own otherwise.
 abbrev pub before_runs : Word → List (List Word) → List (List Word)
 before_runs w [] = (w ∷ []) ∷ []
@@ -39,7 +40,7 @@ abbrev pub runs_of : List Word → List (List Word)
 runs_of [] = []
 runs_of (w ∷ ws) = before_runs w (runs_of ws)
 
--- A list cut from its front into pieces of eight, the last one shorter.
+-- A list cut from its beginning into pieces of eight, the last one shorter.
 abbrev pub eights : List Word → List (List Word)
 eights [] = []
 eights (a ∷ b ∷ c ∷ d ∷ e ∷ f ∷ g ∷ h ∷ rest) = (a ∷ b ∷ c ∷ d ∷ e ∷ f ∷ g ∷ h ∷ []) ∷ eights rest

@@ -1,9 +1,10 @@
+// Why a file has no image.
 use std::alloc::AllocError;
 
 /// Why a file has no image. Lines are numbered from 1, empty ones counted.
 #[derive(Clone, Copy, Debug, PartialEq, Eq)]
 pub enum HexFault {
-    /// This line doesn't begin with a colon, or has another byte than hexadecimal digits behind it.
+    /// This line doesn't begin with a colon, or has another byte than hexadecimal digits after it.
     BadChar(u32),
     /// This line has an odd number of digits, fewer than five bytes, or another number of bytes than it tells,
     /// or its type asks for another number of data bytes.
@@ -18,9 +19,9 @@ pub enum HexFault {
     Clash { line: u32, address: u16 },
     /// There is no end record.
     NoEnd,
-    /// This line isn't empty and stands behind the end record.
+    /// This line isn't empty and stands after the end record.
     AfterEnd(u32),
-    /// Want of memory.
+    /// Out of memory.
     Memory,
 }
 

@@ -1,3 +1,4 @@
+// The record that a line spells, or what is wrong with the line.
 ghost use Rattle.std.specs.Prelude.{◌≡◌, ◌<◌, ◌+◌, ◌%◌, ◌⊎◌, ◌==◌, ◌||◌, not, nat_lt, [], length, IfOk, IfErr, OnOk, OnErr, true, false};
 ghost use Rattle.std.specs.List.{list_all};
 ghost use Rattle.hex_file.specs.Faults.{
@@ -61,7 +62,7 @@ fn are_zero(bytes: &[u8]) -> bool
     bytes.iter().all(|byte| *byte == 0)
 }
 
-/// Whether a line doesn't begin with a colon, or has another byte than hexadecimal digits behind its first.
+/// Whether a line doesn't begin with a colon, or has another byte than hexadecimal digits after its first.
 fn has_bad_char(line: &[u8]) -> bool
     requires { 0 < length line.now }
     ensures { result ≡ has_bad_char line.now }
@@ -116,7 +117,7 @@ fn check_sum(number: u32, bytes: &[u8]) -> Result<(), HexFault>
     }
 }
 
-/// The record of a line's bytes. An `Err` is want of memory.
+/// The record of a line's bytes. An `Err` is out of memory.
 fn record_in(alloc: Global, bytes: &[u8]) -> Result<Record, AllocError>
     requires { length bytes.now ≡ told_length bytes.now + 5 }
     ensures { IfOk result (λ r. held_record r ≡ record_in bytes.now) }

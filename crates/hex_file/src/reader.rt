@@ -1,3 +1,4 @@
+// The image of a file, or its first fault.
 ghost use Rattle.std.specs.Prelude.{◌≡◌, ◌^◌, ◌<◌, ◌⊎◌, [], length, List as Items, IfOk, IfErr, Some, false};
 ghost use Rattle.hex_file.specs.Faults.{line_fault, has_end, IsOfFirstLine, FirstFault, IsReadAs, IsRefusedFor};
 ghost use Rattle.hex_file.specs.ImageOf.{HexRecord, IsImageOf};
@@ -56,7 +57,7 @@ fn give_lines(alloc: Global, bytes: &[u8], table: &mut [Option<u8>]) -> Result<b
 
 /// The image of a HEX file of fewer than 2^32 bytes. Records may come in any order and digits in either case; types
 /// 02 and 04 have the value 0, types 03 and 05 are skipped, and the top two bits of a word are dropped. An `Err`
-/// is the first fault, by lines, or `Memory`, which is want of memory. The time is linear in the file.
+/// is the first fault, by lines, or `Memory`, which is out of memory. The time is linear in the file.
 pub fn read(alloc: Global, bytes: &[u8]) -> Result<Image, HexFault>
     requires { length bytes.now < 2 ^ 32 }
     // The image, or the first fault.

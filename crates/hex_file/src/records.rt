@@ -1,3 +1,4 @@
+// The written form of one record.
 ghost use Rattle.std.specs.Prelude.{◌≡◌, ◌<◌, ◌/◌, ◌%◌, [], ◌∷◌, ◌++◌, length, OnOk, string_bytes};
 ghost use Rattle.text_parts.specs.Digits.{hex2};
 ghost use Rattle.hex_file.specs.Kinds.{code};
@@ -7,7 +8,7 @@ use std::alloc::{AllocError, Global};
 use std::fmt::Write;
 
 /// The types of the records that are written, with their numbers in Intel's specification. The bytes of a
-/// `LinearAddress` are the upper 16 bits of the byte addresses behind it.
+/// `LinearAddress` are the upper 16 bits of the byte addresses after it.
 #[derive(Clone, Copy)]
 pub enum Kind {
     Data = 0,
@@ -33,7 +34,7 @@ fn push_byte(text: &mut String, byte: u8) -> Result<(), AllocError>
     write!(text, "{byte:02X}")
 }
 
-/// Appends the line of a record: its bytes, check byte included, behind a colon.
+/// Appends the line of a record: its bytes, check byte included, after a colon.
 fn push_line(text: &mut String, bytes: &[u8]) -> Result<(), AllocError>
     ensures { OnOk result (string_bytes text.new ≡ string_bytes text.old ++ line bytes.now) }
 {
@@ -44,7 +45,7 @@ fn push_line(text: &mut String, bytes: &[u8]) -> Result<(), AllocError>
     text.push('\n')
 }
 
-/// Appends a record of this type, at this byte address, with these bytes of data, at most 255. An `Err` is want
+/// Appends a record of this type, at this byte address, with these bytes of data, at most 255. An `Err` is out
 /// of memory.
 pub fn push_record(
     alloc: Global,

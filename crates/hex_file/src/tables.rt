@@ -1,3 +1,4 @@
+// The table of the bytes that records give, and the words and bytes that it holds.
 ghost use Rattle.std.specs.Prelude.{◌≡◌, ◌<◌, ◌≤◌, ◌+◌, ◌∷◌, ◌++◌, [], length, List as Items, IfOk, IfErr, OnOk, OnErr, slice_set, slice_index_or, true, false, None, Some};
 ghost use Rattle.std.specs.Option.{option_map};
 ghost use Rattle.hex_file.specs.Faults.{clash_at, is_other};
@@ -28,7 +29,7 @@ const WORDS: u16 = 0x2000;
 /// The word address of the configuration word.
 const CONFIG: u16 = 0x2007;
 
-/// The byte at each address, where one is given: none yet. An `Err` is want of memory.
+/// The byte at each address, where one is given: none yet. An `Err` is out of memory.
 pub fn empty_table(alloc: Global) -> Result<Vec<Option<u8>>, AllocError>
     ensures { IfOk result (λ table. IsTable [] table.items) }
 {
@@ -143,7 +144,7 @@ fn aside(alloc: Global, table: &[Option<u8>]) -> Result<List<Aside>, AllocError>
     Ok(bytes)
 }
 
-/// The image of the bytes that are given. An `Err` is want of memory.
+/// The image of the bytes that are given. An `Err` is out of memory.
 pub fn image(alloc: Global, table: &[Option<u8>]) -> Result<Image, AllocError>
     requires { length table.now ≡ 0x10000 }
     ensures words { IfOk result (λ image. image.words ≡ items_below (word_item table.now) 0x2000) }

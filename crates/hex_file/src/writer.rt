@@ -1,3 +1,4 @@
+// The written form of an image.
 ghost use Rattle.std.specs.Prelude.{◌≡◌, ◌<◌, ◌≤◌, ◌++◌, length, take, drop, All, IfOk, OnOk, string_bytes};
 ghost use Rattle.std.specs.List.{flat_map};
 ghost use Rattle.hex_file.specs.Written.{IsWritable, config_record, data_records, word_bytes, words_record, written};
@@ -15,7 +16,7 @@ const CONFIG_ADDRESS: u16 = 0x400E;
 
 /// The written form of an image: the record of the high address, the data records, the record of the
 /// configuration word, where there is one, and the end record. Bytes aside aren't written. Words stand at
-/// rising addresses below 8,192 and have 14 bits, as the configuration word has. An `Err` is want of memory.
+/// rising addresses below 8,192 and have 14 bits, as the configuration word has. An `Err` is out of memory.
 #[tactic(auto, using(crate::proofs::RiseFacts::below_8192))]
 pub fn write(alloc: Global, image: &Image) -> Result<List<u8>, AllocError>
     requires { IsWritable image.now }

@@ -3,7 +3,7 @@ use Rattle.std.proofs.Common.{◌≡◌, ◌≢◌, ℕ, zero, suc, ◌+◌, ◌
 use Rattle.std.specs.List.{All, position_or_len, before_first, after_first, slice_split, onto_first, filter}
 use Rattle.std.specs.Str.Lines.{lines, lines_of_parts, strip_carriage_return}
 use Rattle.std.proofs.lemmas.Bool.{cond_both, ltb-true, ltb-false, eqb-true, eq-eqb, both_ways, not-false, ne_eqb}
-use Rattle.std.proofs.lemmas.List.{take_rest}
+use Rattle.std.proofs.lemmas.List.{take_all, take_rest}
 use Rattle.std.proofs.lemmas.List.Sums.{fails_before_first, prefix_len_stops, split_at_first}
 use Rattle.std.proofs.lemmas.List.Splits.{slice_split_none, slice_split_at}
 use Rattle.text_parts.specs.Bytes.{begins}
@@ -47,12 +47,6 @@ first_part y xs i e =
           ∙ ap (λ u. take i xs ++ (y ∷ u)) (sym (take_rest xs (i + 1))),
     )
 
-take_all : (n : ℕ) (xs : List ℕ) → length xs ≤ n → take n xs ≡ xs
-take_all zero [] h = refl
-take_all (suc n) [] h = refl
-take_all zero (x ∷ xs) h = absurd (omega arith)
-take_all (suc n) (x ∷ xs) h = ap (λ u. x ∷ u) (take_all n xs (omega arith))
-
 pub no_part_left : (y : ℕ) (xs : List ℕ) → None ≡ position (is_byte y) xs → Lacks y xs
 no_part_left y xs e = let past = found_none y xs e in subst (Lacks y) (take_all (length xs) xs (omega arith)) (lacks_before y xs (length xs) past)
 
@@ -64,8 +58,8 @@ fails y [] h (suc k) d inside = absurd (omega arith)
 fails y (x ∷ xs) h zero d inside = ne_eqb x y h.0
 fails y (x ∷ xs) h (suc k) d inside = fails y xs h.1 k d (omega arith)
 
-pub split-cut : (y : ℕ) (front rest : List ℕ) → Lacks y front → slice_split (λ b. b == y) (front ++ (y ∷ rest)) ≡ front ∷ slice_split (λ b. b == y) rest
-split-cut y front rest h = slice_split_at (is_byte y) front y rest (fails y front h) (eq-eqb y y refl)
+pub split-cut : (y : ℕ) (prefix rest : List ℕ) → Lacks y prefix → slice_split (λ b. b == y) (prefix ++ (y ∷ rest)) ≡ prefix ∷ slice_split (λ b. b == y) rest
+split-cut y prefix rest h = slice_split_at (is_byte y) prefix y rest (fails y prefix h) (eq-eqb y y refl)
 
 pub split-last : (y : ℕ) (text : List ℕ) → Lacks y text → slice_split (λ b. b == y) text ≡ text ∷ []
 split-last y text h = slice_split_none (is_byte y) text (fails y text h)
@@ -89,12 +83,12 @@ has_parts (x ∷ xs) =
     [ true ↦ record { first = []; others = slice_split (λ b. b == 10) xs; is = refl } | false ↦ onto_has x (slice_split (λ b. b == 10) xs) ]
 
 -- The first line of a text, where LF ends it, and where it is the last.
-pub lines-cut : (text front rest : List ℕ) → Lacks 10 front → text ≡ front ++ (10 ∷ rest) → lines text ≡ strip_carriage_return front ∷ lines rest
-lines-cut text front rest h e =
+pub lines-cut : (text prefix rest : List ℕ) → Lacks 10 prefix → text ≡ prefix ++ (10 ∷ rest) → lines text ≡ strip_carriage_return prefix ∷ lines rest
+lines-cut text prefix rest h e =
     let some : HasParts (slice_split (λ b. b == 10) rest) = has_parts rest in
-    ap lines_of_parts (ap (slice_split (λ b. b == 10)) e ∙ split-cut 10 front rest h)
-    ∙ ap (λ parts. lines_of_parts (front ∷ parts)) some.is
-    ∙ ap (λ parts. strip_carriage_return front ∷ lines_of_parts parts) (sym some.is)
+    ap lines_of_parts (ap (slice_split (λ b. b == 10)) e ∙ split-cut 10 prefix rest h)
+    ∙ ap (λ parts. lines_of_parts (prefix ∷ parts)) some.is
+    ∙ ap (λ parts. strip_carriage_return prefix ∷ lines_of_parts parts) (sym some.is)
 
 pub lines-last : (text : List ℕ) → Lacks 10 text → (length text == 0) ≡ false → lines text ≡ text ∷ []
 lines-last text h some = ap lines_of_parts (split-last 10 text h) ∙ ap (λ b. cond b [] (text ∷ [])) some
@@ -105,7 +99,7 @@ some_field : (x : ℕ) (xs : List ℕ) (fields : List (List ℕ)) → filter (λ
 some_field x xs fields = let some : nat_lt 0 (length (x ∷ xs)) ≡ true = grind arith in rw some
 
 -- The first field of a text that begins with no space, where a space ends it, and where it is the last.
-pub fields-cut : (text front rest : List ℕ) → begins (λ b. b == 32) text ≡ false → Lacks 32 front → text ≡ front ++ (32 ∷ rest) → fields_of text ≡ front ∷ fields_of rest
+pub fields-cut : (text prefix rest : List ℕ) → begins (λ b. b == 32) text ≡ false → Lacks 32 prefix → text ≡ prefix ++ (32 ∷ rest) → fields_of text ≡ prefix ∷ fields_of rest
 fields-cut text [] rest n h e = absurd (both_ways (begins (λ b. b == 32) text) n (ap (begins (λ b. b == 32)) e))
 fields-cut text (x ∷ xs) rest n h e = ap fields_of e ∙ ap (filter (λ field. nat_lt 0 (length field))) (split-cut 32 (x ∷ xs) rest h) ∙ some_field x xs (parts_of rest)
 

@@ -14,19 +14,19 @@ digits_hex [] h = refl
 digits_hex (b ∷ bs) h = let (x, y) = and_parts (is_digit b) (list_all is_digit bs) h in and_from (is_hex_digit b) (list_all is_hex_digit bs) (digit_hex b x) (digits_hex bs y)
 
 -- More digits make no smaller number.
-pub value_grows : (base front : ℕ) (ds : List ℕ) → 0 < base → front ≤ value_after base front ds
-value_grows base front [] h = omega arith
-value_grows base front (d ∷ ds) h = let more : front ≤ front * base = grows front base h in let rest : front * base + digit_value d ≤ value_after base (front * base + digit_value d) ds = value_grows base (front * base + digit_value d) ds h in omega arith
+pub value_grows : (base before : ℕ) (ds : List ℕ) → 0 < base → before ≤ value_after base before ds
+value_grows base before [] h = omega arith
+value_grows base before (d ∷ ds) h = let more : before ≤ before * base = grows before base h in let rest : before * base + digit_value d ≤ value_after base (before * base + digit_value d) ds = value_grows base (before * base + digit_value d) ds h in omega arith
   where
     grows : (m n : ℕ) → 0 < n → m ≤ m * n
     grows m n p = grind arith
 
 -- Where the next digit makes a number of this size, it has at least that in the end.
-pub value_past : (base front n most i : ℕ) (ds : List ℕ) → 0 < base → i < length ds → value_after base front (drop i ds) ≡ n → most ≤ front * base + digit_value (get_or ds i 0) → most ≤ n
-value_past base front n most i ds h l e past =
-    let at : value_after base front (drop i ds) ≡ value_after base front (get_or ds i 0 ∷ drop (i + 1) ds) = at_drop_more (value_after base front) ds i 0 l in
-    omega (arith, value_grows base (front * base + digit_value (get_or ds i 0)) (drop (i + 1) ds) h)
+pub value_past : (base before n most i : ℕ) (ds : List ℕ) → 0 < base → i < length ds → value_after base before (drop i ds) ≡ n → most ≤ before * base + digit_value (get_or ds i 0) → most ≤ n
+value_past base before n most i ds h l e past =
+    let at : value_after base before (drop i ds) ≡ value_after base before (get_or ds i 0 ∷ drop (i + 1) ds) = at_drop_more (value_after base before) ds i 0 l in
+    omega (arith, value_grows base (before * base + digit_value (get_or ds i 0)) (drop (i + 1) ds) h)
 
--- Behind the last digit the number is whole.
-pub value_whole : (base front n i : ℕ) (ds : List ℕ) → length ds ≤ i → value_after base front (drop i ds) ≡ n → front ≡ n
-value_whole base front n i ds l e = sym (at_drop_all (value_after base front) ds i l) ∙ e
+-- After the last digit the number is whole.
+pub value_whole : (base before n i : ℕ) (ds : List ℕ) → length ds ≤ i → value_after base before (drop i ds) ≡ n → before ≡ n
+value_whole base before n i ds l e = sym (at_drop_all (value_after base before) ds i l) ∙ e

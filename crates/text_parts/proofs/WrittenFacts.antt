@@ -8,6 +8,7 @@ use Rattle.std.specs.Str.Parse.{ParsesUnsigned, AllDigits, digits_value}
 use Rattle.std.proofs.lemmas.Bool.{and_parts}
 use Rattle.std.proofs.lemmas.Bool.Decides.{nat_tests}
 use Rattle.std.proofs.lemmas.Str.{IsUtf8-from_ascii}
+use Rattle.std.proofs.lemmas.Str.Ascii.{IsAscii-nil, IsAscii-cons}
 use Rattle.std.proofs.lemmas.Str.Parse.{IsNumeralModel, numerals_by_value, tells_digits, parse_plain}
 use Rattle.std.proofs.lemmas.Fmt.{IsAscii-decimal, parse-decimal, first_decimal, decimal_digit, decimal-digits_value}
 use Rattle.text_parts.specs.Bytes.{is_letter, is_digit}
@@ -20,10 +21,10 @@ name_byte_ascii : (b : ℕ) → (is_letter b || is_digit b) ≡ true → b < 128
 name_byte_ascii b h = grind (arith, nat_tests)
 
 bytes_ascii : (bs : List ℕ) → list_all (λ b. is_letter b || is_digit b) bs ≡ true → IsAscii bs
-bytes_ascii [] h zero = omega arith
-bytes_ascii [] h (suc i) = omega arith
-bytes_ascii (b ∷ bs) h zero = name_byte_ascii b (and_parts (is_letter b || is_digit b) (list_all (λ c. is_letter c || is_digit c) bs) h).0
-bytes_ascii (b ∷ bs) h (suc i) = bytes_ascii bs (and_parts (is_letter b || is_digit b) (list_all (λ c. is_letter c || is_digit c) bs) h).1 i
+bytes_ascii [] h = IsAscii-nil
+bytes_ascii (b ∷ bs) h =
+    let (here, rest) = and_parts (is_letter b || is_digit b) (list_all (λ c. is_letter c || is_digit c) bs) h in
+    IsAscii-cons b bs (name_byte_ascii b here) (bytes_ascii bs rest)
 
 name_bytes : (bs : List ℕ) → has_form_of_name bs ≡ true → list_all (λ b. is_letter b || is_digit b) bs ≡ true
 name_bytes [] h = refl

@@ -9,7 +9,7 @@ fn place_of(text: &[u8], byte: u8) -> Option<usize>
     text.iter().position(|other| *other == byte)
 }
 
-/// What stands before the first byte of this kind, and what stands behind it. `None` exactly where the text has no
+/// What stands before the first byte of this kind, and what stands after it. `None` exactly where the text has no
 /// such byte.
 pub fn split_once(text: &[u8], byte: u8) -> Option<(&[u8], &[u8])>
     ensures { MatchOption result

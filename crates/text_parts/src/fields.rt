@@ -5,7 +5,7 @@ ghost use Rattle.text_parts.specs.Fields.{fields_of};
 
 use crate::cuts::split_once;
 
-// A text without the spaces at its front.
+// A text without the spaces at its beginning.
 fn behind_spaces(text: &[u8]) -> &[u8]
     ensures same { fields_of result.now ≡ fields_of text.now }
     ensures begins { begins (λ b. b == 32) result.now ≡ false }

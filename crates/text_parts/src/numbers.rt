@@ -43,7 +43,7 @@ pub fn decimal_in(field: &[u8]) -> Option<u32>
     number_of(10, field)
 }
 
-// Whether neither a sign nor a leading zero stands at the front.
+// Whether neither a sign nor a leading zero stands at the beginning.
 fn is_plain(field: &[u8]) -> bool
     ensures { result ≡ is_plain field.now }
 {

@@ -3,7 +3,7 @@ use Rattle.std.proofs.Common.{◌≡◌, ◌≢◌, ℕ, zero, suc, ◌<◌, inl
 use Rattle.hex_file.specs.declared.faults.HexFault.TheVariants.{BadChar, BadLength, BadSum, BadType, OutOfRange, Clash, NoEnd, AfterEnd}
 use Rattle.hex_file.specs.ImageOf.{HexRecord, Agree}
 use Rattle.hex_file.specs.Faults.{line_fault, FirstFault}
-use Rattle.hex_file.proofs.GivenBytes.{given_bytes}
+use Rattle.hex_file.proofs.GivenByteFacts.{given_bytes}
 use Rattle.hex_file.proofs.Examples.Images.{Records, one_value, upper, word, config, last, upper_allowed, not_ended}
 use Rattle.hex_file.proofs.LineFacts.{bytes_from, bytes_allowed, record_line}
 
@@ -116,8 +116,8 @@ upper_and_word_first (suc (suc k)) d below e = absurd (omega arith)
 none_agrees : Agree []
 none_agrees address first second a b = absurd (given_bytes [] address first a)
 
-front_agrees : Agree (upper ∷ word ∷ [])
-front_agrees address first second a b =
+prefix_agrees : Agree (upper ∷ word ∷ [])
+prefix_agrees address first second a b =
     let p = given_bytes (upper ∷ word ∷ []) address first a in let q = given_bytes (upper ∷ word ∷ []) address second b in omega arith
 
 a_wrong_sum_in_the_third_line : FirstFault (codes ":020000040000FA\n:020000000028D6\n:02400E003A3F36\n:00000001FF\n") (BadSum 3 0x36 0x37)
@@ -129,7 +129,7 @@ a_wrong_sum_in_the_third_line = inl (record {
   split = refl;
   faultless = record {
     spelled = (record_line _ upper 0xFA refl refl refl upper_allowed, (record_line _ word 0xD6 refl refl refl (bytes_allowed 0 _ (lit≤ tt)), tt));
-    agreed = front_agrees;
+    agreed = prefix_agrees;
     once = λ k d below. upper_first k d below;
   };
   filled = lit< tt;

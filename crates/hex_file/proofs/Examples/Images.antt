@@ -6,7 +6,7 @@ use Rattle.text_parts.specs.Digits.{hex2}
 use Rattle.hex_file.specs.declared.images.Word.{Word}
 use Rattle.hex_file.specs.declared.images.Image.{Image}
 use Rattle.hex_file.specs.ImageOf.{HexRecord, record_bytes, IsAllowed, IsRecordLine, nonempty_lines, GivesByte, Agree, GivesWord, AreProgramWords, AreBytesAside, IsImageOf}
-use Rattle.hex_file.proofs.GivenBytes.{given_bytes, gives_byte, word_at, record_at, end_at, some_line}
+use Rattle.hex_file.proofs.GivenByteFacts.{given_bytes, gives_byte, word_at, record_at, end_at, some_line}
 use Rattle.hex_file.proofs.LineFacts.{bytes_from, bytes_allowed, bytes_of_line, length-hex2, record_line, records_of_lines, records_before_end}
 
 -- The records of the file: the upper address, the word 2800h at 0, the configuration word 3F3Ah, and the end.

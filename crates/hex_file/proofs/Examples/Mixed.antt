@@ -7,7 +7,7 @@ use Rattle.hex_file.specs.declared.images.Word.{Word}
 use Rattle.hex_file.specs.declared.images.Aside.{Aside}
 use Rattle.hex_file.specs.declared.images.Image.{Image}
 use Rattle.hex_file.specs.ImageOf.{HexRecord, GivesByte, IsGiven, Agree, GivesWord, AreProgramWords, AreBytesAside, IsImageOf}
-use Rattle.hex_file.proofs.GivenBytes.{given_bytes, gives_byte, word_at}
+use Rattle.hex_file.proofs.GivenByteFacts.{given_bytes, gives_byte, word_at}
 use Rattle.hex_file.proofs.ImageLaws.{held, holds_none}
 use Rattle.hex_file.proofs.LineFacts.{bytes_from, bytes_allowed, record_line}
 

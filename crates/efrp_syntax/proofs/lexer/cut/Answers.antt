@@ -1,6 +1,6 @@
 use Rattle.std.proofs.Common.{arith}
 use Rattle.std.proofs.lemmas.Result.{err_from_is_err_and}
-use Rattle.efrp_syntax.proofs.CuttingFacts.{cut_skip, cut_front, cut_fault, cut_end, front_shorter}
+use Rattle.efrp_syntax.proofs.CuttingFacts.{cut_skip, cut_prefix, cut_fault, cut_end, prefix_shorter}
 use Rattle.efrp_syntax.proofs.lexer.cut.Goals as goal
 
 pub loop-rest-preserved-in-Some : goal.loop-rest-preserved-in-Some
@@ -14,13 +14,13 @@ returns-in_err-next c =
 
 pub loop-rest-smaller : goal.loop-rest-smaller
 loop-rest-smaller c =
-    let front = c.in_ok-next.ensures in
-    front_shorter c.loop-rest.after_number c.loop-rest.rest.now c.in_ok-next.more.now c.in_ok-next.next front.0
+    let prefix = c.in_ok-next.ensures in
+    prefix_shorter c.loop-rest.after_number c.loop-rest.rest.now c.in_ok-next.more.now c.in_ok-next.next prefix.0
 
 pub loop-rest-preserved : goal.loop-rest-preserved
 loop-rest-preserved c =
-    let front = c.in_ok-next.ensures in
-    rw (c.in_ok-push.ensures.ok, c.is_number-after_number.ensures) (cut_front c.args.text.now c.loop-rest.rest.now c.in_ok-next.more.now c.loop-rest.after_number c.loop-rest.found c.in_ok-next.next c.loop-rest.invariant front.0 front.1)
+    let prefix = c.in_ok-next.ensures in
+    rw (c.in_ok-push.ensures.ok, c.is_number-after_number.ensures) (cut_prefix c.args.text.now c.loop-rest.rest.now c.in_ok-next.more.now c.loop-rest.after_number c.loop-rest.found c.in_ok-next.next c.loop-rest.invariant prefix.0 prefix.1)
 
 pub returns : goal.returns
 returns c = cut_end c.args.text.now c.loop-rest.rest.now c.loop-rest.after_number c.loop-rest.found c.requires c.loop-rest.invariant c.loop-rest-test.ensures

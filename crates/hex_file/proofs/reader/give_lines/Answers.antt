@@ -1,6 +1,6 @@
 use Rattle.std.proofs.Common.{◌≡◌, ◌<◌, length, false, sym, ◌∙◌, subst, arith}
 use Rattle.std.proofs.lemmas.Bool.{eqb-true, eqb-false}
-use Rattle.hex_file.proofs.FrontFacts.{AreRead, nothing_read, read_empty, read_line}
+use Rattle.hex_file.proofs.ReadFacts.{AreRead, nothing_read, read_empty, read_line}
 use Rattle.hex_file.proofs.reader.give_lines.Goals as goal
 
 pub loop-line-init : goal.loop-line-init

@@ -1,5 +1,5 @@
 use Rattle.std.proofs.Common.{◌+◌, ◌≤◌, length}
-use Rattle.hex_file.proofs.FrontFacts.{AreRead}
+use Rattle.hex_file.proofs.ReadFacts.{AreRead}
 use Rattle.hex_file.proofs.reader.give_lines.Given as goal
 
 abbrev pub invariant-loop-line : goal.invariant-loop-line

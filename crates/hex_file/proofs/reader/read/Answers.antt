@@ -6,7 +6,7 @@ use Rattle.hex_file.specs.ImageOf.{IsImageOf}
 use Rattle.hex_file.specs.Tables.{AreGiven, word_at, word_item, aside_item, items_below}
 use Rattle.hex_file.specs.declared.faults.HexFault.TheVariants.{NoEnd}
 use Rattle.hex_file.specs.declared.images.Image.{Image}
-use Rattle.hex_file.proofs.FrontFacts.{no_ends}
+use Rattle.hex_file.proofs.ReadFacts.{no_ends}
 use Rattle.hex_file.proofs.ImageLaws.{image_determined}
 use Rattle.hex_file.proofs.TableImageFacts.{image_of_table}
 use Rattle.hex_file.proofs.UniqueLaws.{one_fault, no_image_of_fault}

@@ -3,8 +3,8 @@ use Rattle.std.proofs.lemmas.List.Elements.{All-drop}
 use Rattle.hex_file.proofs.writer.push_data.Goals as goal
 
 -- What is written goes over from what is left to the text.
-moved : (new old front behind left all : List ℕ) → new ≡ old ++ front → left ≡ front ++ behind → old ++ left ≡ all → new ++ behind ≡ all
-moved new old front behind left all text parts before = cc (append_assoc old front behind)
+moved : (new old prefix behind left all : List ℕ) → new ≡ old ++ prefix → left ≡ prefix ++ behind → old ++ left ≡ all → new ++ behind ≡ all
+moved new old prefix behind left all text parts before = cc (append_assoc old prefix behind)
 
 pub loop-rest-preserved : goal.loop-rest-preserved
 loop-rest-preserved c =

@@ -1,6 +1,6 @@
 use Rattle.std.proofs.Common.{refl, sym}
-use Rattle.efrp_syntax.proofs.TokenFrontFacts.{mark_taken, mark_none, behind_number}
-use Rattle.efrp_syntax.proofs.fronts.token.Goals as goal
+use Rattle.efrp_syntax.proofs.FirstTokenFacts.{mark_taken, mark_none, behind_number}
+use Rattle.efrp_syntax.proofs.prefixes.token.Goals as goal
 
 pub returns-then-begins_word : goal.returns-then-begins_word
 returns-then-begins_word c = (refl, behind_number c.args.after_number c.args.text.now c.if-after_number.true (sym c.if-begins_word.ensures))

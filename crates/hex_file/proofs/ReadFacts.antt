@@ -1,4 +1,4 @@
--- The lines of a file that are read: those at its front have no fault.
+-- The lines of a file that are read: those at its beginning have no fault.
 use Rattle.std.proofs.Common.{◌≡◌, ◌≢◌, ℕ, zero, suc, ◌+◌, ◌-◌, ◌<◌, Bool, true, false, ◌||◌, ◌==◌, nat_lt, List, [], ◌∷◌, ◌++◌, length, take, Option, None, Some, refl, sym, ◌∙◌, ap, subst, append_assoc, append-nil, length-append, arith}
 use Rattle.std.proofs.lemmas.Bool.{cond-true, cond-false, eqb-false, ne_eqb, lt-ltb, le-ltb, or_parts}
 use Rattle.std.proofs.lemmas.List.Elements.{filter-append}
@@ -88,7 +88,7 @@ faultless_more texts records line r is unended some spelled agrees = record {
   once = subst (All (λ r. r.kind ≢ 1)) (sym (init_of_more records r)) (no_ends records unended);
 }
 
--- The front of a file.
+-- The beginning of a file.
 pub record AreRead (bytes rest : List ℕ) (number : ℕ) (table : List (Option ℕ)) (ended : Bool) : Type 0 where
   pub before : List (List ℕ)
   pub records : List HexRecord

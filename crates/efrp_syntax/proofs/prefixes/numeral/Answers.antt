@@ -1,6 +1,6 @@
 use Rattle.std.proofs.Common.{refl}
-use Rattle.efrp_syntax.proofs.TokenFrontFacts.{wide_taken, num_taken, number_big}
-use Rattle.efrp_syntax.proofs.fronts.numeral.Goals as goal
+use Rattle.efrp_syntax.proofs.FirstTokenFacts.{wide_taken, num_taken, number_big}
+use Rattle.efrp_syntax.proofs.prefixes.numeral.Goals as goal
 
 pub returns-in-None-default : goal.returns-in-None-default
 returns-in-None-default c =

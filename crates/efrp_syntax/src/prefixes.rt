@@ -1,3 +1,4 @@
+// What a text begins with: a blank or a comment, or a token.
 ghost use Rattle.std.specs.Prelude.{◌≡◌, false, IsTrue, IfOk, IfErr};
 ghost use Rattle.std.specs.List.{list_all};
 ghost use Rattle.text_parts.specs.Bytes.{is_digit, is_letter, begins};
@@ -15,7 +16,7 @@ use std::alloc::Global;
 use std::str;
 use text_parts::LONGEST_NAME;
 
-/// What follows the blank or the comment at the front of a text.
+/// What follows the blank or the comment at the beginning of a text.
 pub fn skipped(text: &[u8]) -> Option<&[u8]>
     ensures { Skipped text.now result }
 {
@@ -38,7 +39,7 @@ fn name_of(alloc: Global, bytes: &[u8]) -> Result<Text, SyntaxFault>
     }
 }
 
-/// The name at the front of a text, and what follows it. `place` is the text's place, in bytes, told in a
+/// The name at the beginning of a text, and what follows it. `place` is the text's place, in bytes, told in a
 /// fault.
 fn word(alloc: Global, text: &[u8], place: u32) -> Result<(Token, &[u8]), SyntaxFault>
     requires letter { IsTrue (begins is_letter text.now) }
@@ -52,7 +53,7 @@ fn word(alloc: Global, text: &[u8], place: u32) -> Result<(Token, &[u8]), Syntax
     Ok((Token::Word(name_of(alloc, bytes)?), rest))
 }
 
-/// The number at the front of a text, with its suffix, and what follows it.
+/// The number at the beginning of a text, with its suffix, and what follows it.
 fn numeral(text: &[u8], place: u32) -> Result<(Token, &[u8]), SyntaxFault>
     requires digit { IsTrue (begins is_digit text.now) }
     requires no_comment { starts_comment text.now ≡ false }
@@ -66,7 +67,7 @@ fn numeral(text: &[u8], place: u32) -> Result<(Token, &[u8]), SyntaxFault>
     }
 }
 
-/// The token at the front of a text that begins with no comment, and what follows it. `after_number` says
+/// The token at the beginning of a text that begins with no comment, and what follows it. `after_number` says
 /// that a number stands directly before.
 pub fn token(
     alloc: Global,
