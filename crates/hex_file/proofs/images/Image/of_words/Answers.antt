@@ -11,9 +11,9 @@ loop-address-preserved c =
     let numbers : List ℕ = c.args.words.now in
     let here : 0 + i ≡ i = omega arith in
     let more =
-        ap (λ n. words_from 0 (take n numbers)) (add-one i)
-        ∙ words_from-more 0 numbers i c.loop-address-test.true
-        ∙ ap (λ a. words_from 0 (take i numbers) ++ word a (get_or numbers i 0) ∷ []) here in
+    ap (λ n. words_from 0 (take n numbers)) (add-one i)
+    ∙ words_from-more 0 numbers i c.loop-address-test.true
+    ∙ ap (λ a. words_from 0 (take i numbers) ++ word a (get_or numbers i 0) ∷ []) here in
     c.in_ok-push.ensures.ok ∙ ap (λ ws. ws ++ word i (get_or numbers i 0) ∷ []) c.loop-address.invariant ∙ sym more
 
 pub returns-clause-writable : goal.returns-clause-writable
