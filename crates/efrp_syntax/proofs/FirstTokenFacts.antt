@@ -151,13 +151,3 @@ mark_none after text none b t w more l e = absurd (go t l)
 -- Directly after a number no name and no number is taken.
 pub behind_number : (after : Bool) (text : List ℕ) → after ≡ true → begins is_word_byte text ≡ true → HasNoFirstToken after text
 behind_number after text a b t w more l e = and_from after (starts_word w) a (starts_as w ∙ lexeme_begins_word t text w more is_word_byte l e ∙ b)
-
--- The bytes of a name are ASCII.
-word_byte_ascii : (b : ℕ) → is_word_byte b ≡ true → b < 128
-word_byte_ascii b h = grind (arith, nat_tests)
-
-pub word_ascii : (bs : List ℕ) → list_all is_word_byte bs ≡ true → IsAscii bs
-word_ascii [] h zero = omega arith
-word_ascii [] h (suc i) = omega arith
-word_ascii (b ∷ bs) h zero = word_byte_ascii b (and_parts (is_word_byte b) (list_all is_word_byte bs) h).0
-word_ascii (b ∷ bs) h (suc i) = word_ascii bs (and_parts (is_word_byte b) (list_all is_word_byte bs) h).1 i

@@ -69,57 +69,56 @@ fn unusual_records(rt: HostRuntime) -> Result<(), Fail> {
     Ok(())
 }
 
-#[test]
-fn faults_of_lines(rt: HostRuntime) {
-    let no_colon = fault(rt.alloc(), b"\n\r\n00000001FF");
-    assert_eq!(rt; no_colon, Some(HexFault::BadChar(3)));
-    let no_digit = fault(rt.alloc(), b":0000000GFF");
-    assert_eq!(rt; no_digit, Some(HexFault::BadChar(1)));
-    let end_of_line = fault(rt.alloc(), b":00000001FF\r");
-    assert_eq!(rt; end_of_line, Some(HexFault::BadChar(1)));
-    let odd = fault(rt.alloc(), b":00000001FF0");
-    assert_eq!(rt; odd, Some(HexFault::BadLength(1)));
-    let four_bytes = fault(rt.alloc(), b":00000000");
-    assert_eq!(rt; four_bytes, Some(HexFault::BadLength(1)));
-    let too_long = fault(rt.alloc(), b":0000000100FF");
-    assert_eq!(rt; too_long, Some(HexFault::BadLength(1)));
-    let sum = fault(rt.alloc(), b"\n:02400E003A3F36\n:x");
-    assert_eq!(rt;
-        sum,
-        Some(HexFault::BadSum {
+// Texts with a line that is no record's.
+const LINE_FAULTS: &[(&[u8], HexFault)] = &[
+    (b"\n\r\n00000001FF", HexFault::BadChar(3)),
+    (b":0000000GFF", HexFault::BadChar(1)),
+    (b":00000001FF\r", HexFault::BadChar(1)),
+    (b":00000001FF0", HexFault::BadLength(1)),
+    (b":00000000", HexFault::BadLength(1)),
+    (b":0000000100FF", HexFault::BadLength(1)),
+    (
+        b"\n:02400E003A3F36\n:x",
+        HexFault::BadSum {
             line: 2,
             got: 0x36,
-            want: 0x37
-        })
-    );
-    let six = fault(rt.alloc(), b":00000006FA");
-    assert_eq!(rt; six, Some(HexFault::BadType { line: 1, kind: 6 }));
+            want: 0x37,
+        },
+    ),
+    (b":00000006FA", HexFault::BadType { line: 1, kind: 6 }),
+];
+
+// Texts of records of which one isn't allowed, and texts without an end. In the clash only the top two bits of the
+// word differ.
+const RECORD_FAULTS: &[(&[u8], HexFault)] = &[
+    (b":0100000100FE", HexFault::BadLength(1)),
+    (b":0100000401FA", HexFault::BadLength(1)),
+    (b":020000040001F9", HexFault::OutOfRange(1)),
+    (b":02FFFF00000000", HexFault::OutOfRange(1)),
+    (
+        b":020000000028D6\n:02000000006896",
+        HexFault::Clash {
+            line: 2,
+            address: 1,
+        },
+    ),
+    (b":00000001FF\n\n:00000001FF", HexFault::AfterEnd(3)),
+    (b"", HexFault::NoEnd),
+    (b":020000000028D6\n", HexFault::NoEnd),
+];
+
+#[test]
+fn faults_of_lines(rt: HostRuntime) {
+    for (text, wanted) in LINE_FAULTS {
+        assert_eq!(rt; fault(rt.alloc(), text), Some(*wanted));
+    }
 }
 
 #[test]
 fn faults_of_records(rt: HostRuntime) {
-    let end = fault(rt.alloc(), b":0100000100FE");
-    assert_eq!(rt; end, Some(HexFault::BadLength(1)));
-    let upper = fault(rt.alloc(), b":0100000401FA");
-    assert_eq!(rt; upper, Some(HexFault::BadLength(1)));
-    let above_zero = fault(rt.alloc(), b":020000040001F9");
-    assert_eq!(rt; above_zero, Some(HexFault::OutOfRange(1)));
-    let past = fault(rt.alloc(), b":02FFFF00000000");
-    assert_eq!(rt; past, Some(HexFault::OutOfRange(1)));
-    // Only the top two bits of the word differ.
-    let clash = fault(rt.alloc(), b":020000000028D6\n:02000000006896");
-    assert_eq!(rt;
-        clash,
-        Some(HexFault::Clash {
-            line: 2,
-            address: 1
-        })
-    );
-    let behind = fault(rt.alloc(), b":00000001FF\n\n:00000001FF");
-    assert_eq!(rt; behind, Some(HexFault::AfterEnd(3)));
-    assert_eq!(rt; fault(rt.alloc(), b""), Some(HexFault::NoEnd));
-    let no_end = fault(rt.alloc(), b":020000000028D6\n");
-    assert_eq!(rt; no_end, Some(HexFault::NoEnd));
+    for (text, wanted) in RECORD_FAULTS {
+        assert_eq!(rt; fault(rt.alloc(), text), Some(*wanted));
+    }
 }
 
 // The last line feed may be missing.

@@ -2,6 +2,7 @@
 use Rattle.std.proofs.Common.{◌≡◌, ℕ, suc, ◌+◌, ◌-◌, ◌*◌, ◌/◌, ◌%◌, ◌<◌, ◌≤◌, ⊎_elim, true, nat_lt, List, [], ◌∷◌, ◌++◌, length, drop, sum, refl, sym, ◌∙◌, ap, codes, if◌then◌else◌, lit≤, arith}
 use Rattle.std.proofs.lemmas.Bool.{ltb-true}
 use Rattle.std.proofs.lemmas.Bool.Decides.{nat_tests}
+use Rattle.std.proofs.lemmas.List.{same_from_push}
 use Rattle.std.proofs.lemmas.List.Sums.{AllPass-from_list_all}
 use Rattle.std.specs.List.{All, AllZip, flat_map, list_all}
 use Rattle.std.specs.Str.{str_to_ascii_uppercase}
@@ -58,15 +59,6 @@ bytes_allowed address payload fits =
 
 -- A line has one record at most.
 
-snoc_same : {X : Type 0} (xs ys : List X) (x y : X) → xs ++ x ∷ [] ≡ ys ++ y ∷ [] → xs ≡ ys
-snoc_same [] [] x y e = refl
-snoc_same [] (b ∷ []) x y e = absurd cc
-snoc_same [] (b ∷ c ∷ ys) x y e = absurd cc
-snoc_same (a ∷ []) [] x y e = absurd cc
-snoc_same (a ∷ c ∷ xs) [] x y e = absurd cc
-snoc_same (a ∷ xs) (b ∷ ys) x y e =
-    let prefix : a ≡ b = cc in let tail : xs ++ x ∷ [] ≡ ys ++ y ∷ [] = cc in let rest : xs ≡ ys = snoc_same xs ys x y tail in cc
-
 same_parts : (a b : ℕ) → a / 256 ≡ b / 256 → a % 256 ≡ b % 256 → a ≡ b
 same_parts a b high low = omega arith
 
@@ -77,7 +69,7 @@ same_record r s c d e =
     let address : r.address ≡ s.address = same_parts r.address s.address high low in
     let kind : r.kind ≡ s.kind = cc in
     let ends : r.payload ++ c ∷ [] ≡ s.payload ++ d ∷ [] = cc in
-    let payload : r.payload ≡ s.payload = snoc_same r.payload s.payload c d ends in
+    let payload : r.payload ≡ s.payload = (same_from_push r.payload s.payload c d ends).0 in
     λ i. record { address = address i; kind = kind i; payload = payload i }
 
 record_of_line : (line : List ℕ) (r s : HexRecord) → IsRecordLine line r → IsRecordLine line s → r ≡ s
@@ -93,4 +85,4 @@ records_of_lines (l ∷ lines) (r ∷ rs) (s ∷ ss) is also =
     let first : r ≡ s = record_of_line l r s is.0 also.0 in let rest : rs ≡ ss = records_of_lines lines rs ss is.1 also.1 in cc
 
 pub records_before_end : (rs ss : List HexRecord) (r s : HexRecord) → rs ++ r ∷ [] ≡ ss ++ s ∷ [] → rs ≡ ss
-records_before_end = snoc_same
+records_before_end rs ss r s e = (same_from_push rs ss r s e).0

@@ -3,7 +3,7 @@ use Rattle.std.proofs.Common.{◌≡◌, ◌≢◌, ℕ, suc, ◌+◌, ◌*◌, 
 use Rattle.std.proofs.lemmas.Bool.{eqb-true, eqb-false, eq-eqb, ne_eqb, ltb-false, le-ltb, not-false, not_from_true, or_parts, or_from, and_cases, and_left, and_right, both_ways, and_parts, or_left, or_right, cases_eq}
 use Rattle.std.proofs.lemmas.Bool.Decides.{nat_tests}
 use Rattle.std.proofs.Math.Seq.{take-append_seam}
-use Rattle.std.proofs.lemmas.List.{take_more, take_all, nil_from_length, length-take-le}
+use Rattle.std.proofs.lemmas.List.{take_more, take_all, nil_from_length, length-take-le, get_or_push}
 use Rattle.std.proofs.lemmas.List.Sums.{sum_by_push}
 use Rattle.std.specs.Char.{to_ascii_uppercase}
 use Rattle.std.specs.List.{All, flat_map, list_all}
@@ -151,13 +151,9 @@ has_digits (b ∷ line) bytes fit e =
 length_bytes : (r : HexRecord) (check : ℕ) → length (record_bytes r check) ≡ length r.payload + 5
 length_bytes r check = omega (arith, length-append r.payload (check ∷ []))
 
-at_append : (xs : List ℕ) (x : ℕ) → slice_index (xs ++ x ∷ []) (length xs) ≡ x
-at_append [] x = refl
-at_append (y ∷ xs) x = at_append xs x
-
 got_of_record : (r : HexRecord) (check : ℕ) → got_sum (record_bytes r check) ≡ check
 got_of_record r check =
-    ap (slice_index (record_bytes r check)) (let e : length r.payload + 4 ≡ suc (suc (suc (suc (length r.payload)))) = omega arith in e) ∙ at_append r.payload check
+    ap (slice_index (record_bytes r check)) (let e : length r.payload + 4 ≡ suc (suc (suc (suc (length r.payload)))) = omega arith in e) ∙ get_or_push r.payload check 0 (length r.payload) refl
 
 prefix_of_record : (r : HexRecord) (check : ℕ)
     → take (length r.payload + 4) (record_bytes r check) ≡ length r.payload ∷ r.address / 256 ∷ r.address % 256 ∷ r.kind ∷ r.payload

@@ -1,4 +1,5 @@
 pub mod CutLaws
 pub mod DigitLaws
+pub mod NameLaws
 pub mod NumberLaws
 pub mod WrittenFacts

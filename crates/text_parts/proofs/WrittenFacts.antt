@@ -1,4 +1,4 @@
--- What std's `parse` and `from_utf8` make of names and of decimal numbers without a leading zero.
+-- What std's `parse` and `from_utf8` make of decimal numbers without a leading zero.
 use Rattle.std.proofs.Common.{◌≡◌, ◌≢◌, ℕ, zero, suc, ◌^◌, ◌<◌, true, ◌||◌, nat_le, List, [], ◌∷◌, length, get_or, MatchOption, Result, Ok, Err, refl, sym, ap, subst, ◌∙◌, arith}
 use Rattle.std.specs.List.{list_all}
 use Rattle.std.specs.Str.{IsAscii, IsUtf8}
@@ -14,26 +14,6 @@ use Rattle.std.proofs.lemmas.Fmt.{IsAscii-decimal, parse-decimal, first_decimal,
 use Rattle.text_parts.specs.Bytes.{is_letter, is_digit}
 use Rattle.text_parts.specs.Names.{has_form_of_name, is_name}
 use Rattle.text_parts.specs.Numbers.{is_plain}
-
--- Names are ASCII.
-
-name_byte_ascii : (b : ℕ) → (is_letter b || is_digit b) ≡ true → b < 128
-name_byte_ascii b h = grind (arith, nat_tests)
-
-bytes_ascii : (bs : List ℕ) → list_all (λ b. is_letter b || is_digit b) bs ≡ true → IsAscii bs
-bytes_ascii [] h = IsAscii-nil
-bytes_ascii (b ∷ bs) h =
-    let (here, rest) = and_parts (is_letter b || is_digit b) (list_all (λ c. is_letter c || is_digit c) bs) h in
-    IsAscii-cons b bs (name_byte_ascii b here) (bytes_ascii bs rest)
-
-name_bytes : (bs : List ℕ) → has_form_of_name bs ≡ true → list_all (λ b. is_letter b || is_digit b) bs ≡ true
-name_bytes [] h = refl
-name_bytes (b ∷ bs) h = grind (arith, and_parts)
-
-pub name_utf8 : (bs : List ℕ) → is_name bs ≡ true → IsUtf8 bs
-name_utf8 bs h = IsUtf8-from_ascii bs (bytes_ascii bs (name_bytes bs (and_parts (has_form_of_name bs) (nat_le (length bs) 31) h).0))
-
--- Decimal numbers.
 
 pub decimal_utf8 : (n : ℕ) → n < 2 ^ 64 → IsUtf8 (decimal n)
 decimal_utf8 n small = IsUtf8-from_ascii (decimal n) (IsAscii-decimal n small)

@@ -4,28 +4,12 @@ use Rattle.text_parts.specs.Bytes.{is_hex_digit, begins}
 use Rattle.text_parts.specs.Numbers.{value_after}
 use Rattle.frp_tree.specs.Tokens.{marks, is_blank, HasTokens, IsBadByte, here}
 use Rattle.frp_tree.specs.Prefixes.{IsFirstToken, Skips}
+use Rattle.frp_tree.specs.declared.marks.TheConstants.{ARROW}
 use Rattle.frp_tree.specs.declared.tokens.Token.TheVariants as token
 use Rattle.frp_tree.proofs.TokenLaws.{skip, take_token}
 use Rattle.efrp_syntax.proofs.FirstMarkFacts.{long_found}
 use Rattle.efrp_syntax.proofs.FirstNumberFacts.{first_hexadecimal, first_decimal}
 use Rattle.efrp_syntax.proofs.FirstTokenFacts.{comment_skips, first_word, wide_taken, num_taken, mark_taken, behind_number}
-
--- The marks at some of their numbers.
-
-first_mark : slice_get marks 0 ≡ Some (codes ";")
-first_mark = refl
-
-arrow : slice_get marks 7 ≡ Some (codes "=>")
-arrow = refl
-
-less_or_equal : slice_get marks 13 ≡ Some (codes "<=")
-less_or_equal = refl
-
-shift_left : slice_get marks 19 ≡ Some (codes "<<")
-shift_left = refl
-
-last_mark : slice_get marks 27 ≡ Some (codes "!")
-last_mark = refl
 
 -- Numbers.
 
@@ -40,8 +24,8 @@ leading_zeros = refl
 name_first : IsFirstToken false (codes "a=>0x1Fw//c") (token.Word (codes "a")) (codes "=>0x1Fw//c")
 name_first = first_word (codes "a=>0x1Fw//c") (codes "a") (codes "=>0x1Fw//c") (codes "a") refl refl (record { spelled = refl; all = refl; ends = refl }) refl
 
-then_mark : IsFirstToken false (codes "=>0x1Fw//c") (token.Mark 7) (codes "0x1Fw//c")
-then_mark = mark_taken false (codes "=>0x1Fw//c") (codes "0x1Fw//c") 7 (long_found (codes "=>0x1Fw//c") (codes "0x1Fw//c") 61 62 7 refl refl) refl refl
+then_mark : IsFirstToken false (codes "=>0x1Fw//c") (token.Mark ARROW) (codes "0x1Fw//c")
+then_mark = mark_taken false (codes "=>0x1Fw//c") (codes "0x1Fw//c") ARROW (long_found (codes "=>0x1Fw//c") (codes "0x1Fw//c") 61 62 ARROW refl refl) refl refl
 
 then_wide : IsFirstToken false (codes "0x1Fw//c") (token.Wide 31) (codes "//c")
 then_wide = (wide_taken (codes "0x1Fw//c") (codes "w//c") (codes "//c") (Some 31) 31 refl (first_hexadecimal (codes "0x1Fw//c") (codes "1Fw//c") (codes "1F") (codes "w//c") (Some 31) refl refl (record { spelled = refl; all = refl; ends = refl }) refl) refl refl).0
@@ -49,7 +33,7 @@ then_wide = (wide_taken (codes "0x1Fw//c") (codes "w//c") (codes "//c") (Some 31
 then_comment : Skips (codes "//c") []
 then_comment = comment_skips (codes "//c") (codes "c") (codes "c") [] refl (record { spelled = refl; all = refl; ends = refl })
 
-three_tokens : HasTokens (codes "a=>0x1Fw//c") (token.Word (codes "a") ∷ token.Mark 7 ∷ token.Wide 31 ∷ [])
+three_tokens : HasTokens (codes "a=>0x1Fw//c") (token.Word (codes "a") ∷ token.Mark ARROW ∷ token.Wide 31 ∷ [])
 three_tokens =
     (lit≤ tt, false, take_token false (codes "a=>0x1Fw//c") (codes "=>0x1Fw//c") _ name_first (take_token false (codes "=>0x1Fw//c") (codes "0x1Fw//c") _ then_mark (take_token false (codes "0x1Fw//c") (codes "//c") _ then_wide (skip true (codes "//c") [] then_comment here))), (lit≤ tt, (tt, (lit≤ tt, tt))))
 

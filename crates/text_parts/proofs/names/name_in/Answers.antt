@@ -1,5 +1,5 @@
 use Rattle.std.proofs.Common.{sym, ◌∙◌}
-use Rattle.text_parts.proofs.WrittenFacts.{name_utf8}
+use Rattle.text_parts.proofs.NameLaws.{name_utf8}
 use Rattle.text_parts.proofs.names.name_in.Goals as goal
 
 pub unreachable-requires : goal.unreachable-requires
