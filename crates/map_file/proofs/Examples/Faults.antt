@@ -1,6 +1,8 @@
 -- First faulty lines of short texts.
-use Rattle.std.proofs.Common.{◌≡◌, ◌≢◌, ℕ, List, [], ◌++◌, get_or, inr, codes, refl, sym, ap, ◌∙◌, arith}
+use Rattle.std.proofs.Common.{◌≡◌, ◌≢◌, ℕ, List, [], ◌∷◌, ◌++◌, get_or, inr, codes, refl, sym, ap, ◌∙◌, arith}
 use Rattle.std.specs.Fmt.{digits}
+use Rattle.pic_isa.specs.declared.sources.Source.TheVariants as source
+use Rattle.map_file.specs.declared.maps.MapEvent.{MapEvent}
 use Rattle.map_file.specs.declared.maps.MapSample.{MapSample}
 use Rattle.map_file.specs.declared.drafts.Draft.{Draft}
 use Rattle.map_file.specs.declared.entries.Entry.TheVariants as entry
@@ -66,12 +68,41 @@ head = record empty_draft { section = section.Events }
 read_head : (rest : List ℕ) → HasRead (codes "efrp map 1\n" ++ rest) rest 2 head
 read_head rest = read_more (codes "efrp map 1\n" ++ rest) (codes "efrp map 1\n" ++ rest) (codes "efrp map 1") rest 1 empty_draft head entry.Head (read_start (codes "efrp map 1\n" ++ rest)) refl refl tt (refl, refl, refl, refl)
 
-level : MapSample
+abbrev level : MapSample
 level = sample (codes "Tick") (codes "level") 0x12
 
 -- The event that it names isn't known yet.
 sample_before_its_event : FirstFaulty (codes "efrp map 1\nsample Tick level 0012\nevent Tick INT 1 open 0041 commit 1A47\n") 2
-unfolding level
 sample_before_its_event =
     let rest = codes "sample Tick level 0012\nevent Tick INT 1 open 0041 commit 1A47\n" in
     not_added (codes "efrp map 1\n" ++ rest) rest (codes "sample Tick level 0012") (codes "event Tick INT 1 open 0041 commit 1A47\n") 2 head head (entry.Sample level) (read_head rest) refl (search (arith)) (search (arith)) refl (inr refl)
+
+-- A pair of an event and an input that an earlier line names, in a text that begins with an event and a sample.
+
+abbrev tick : MapEvent
+tick = record { name = codes "Tick"; source = source.Int; priority = 1; «open» = 0x41; commit = 0x1A47 }
+
+abbrev ticking : Draft
+ticking = record { section = section.Events; map = record empty { events = tick ∷ [] }; lowest = 0 }
+
+abbrev leveling : Draft
+leveling = record { section = section.Samples; map = record empty { events = tick ∷ []; samples = level ∷ [] }; lowest = 0 }
+
+abbrev three_lines : List ℕ
+three_lines = codes "efrp map 1\nevent Tick INT 1 open 0041 commit 1A47\nsample Tick level 0012\n"
+
+read_tick : (rest : List ℕ) → HasRead (codes "efrp map 1\nevent Tick INT 1 open 0041 commit 1A47\n" ++ rest) rest 3 ticking
+unfolding digits
+read_tick rest =
+    let line = codes "event Tick INT 1 open 0041 commit 1A47" in
+    read_more (codes "efrp map 1\nevent Tick INT 1 open 0041 commit 1A47\n" ++ rest) (line ++ codes "\n" ++ rest) line rest 2 head ticking (entry.Event tick) (read_head (line ++ codes "\n" ++ rest)) refl refl (search (arith)) (refl, refl, refl, refl)
+
+read_level : (rest : List ℕ) → HasRead (three_lines ++ rest) rest 4 leveling
+read_level rest =
+    let line = codes "sample Tick level 0012" in
+    read_more (three_lines ++ rest) (line ++ codes "\n" ++ rest) line rest 3 ticking leveling (entry.Sample level) (read_tick (line ++ codes "\n" ++ rest)) refl refl (search (arith)) (refl, refl, refl, refl)
+
+pair_named_twice : FirstFaulty (three_lines ++ codes "sample Tick level 0013\n") 4
+pair_named_twice =
+    let rest = codes "sample Tick level 0013\n" in
+    not_added (three_lines ++ rest) rest (codes "sample Tick level 0013") [] 4 leveling leveling (entry.Sample (sample (codes "Tick") (codes "level") 0x13)) (read_level rest) refl (search (arith)) (search (arith)) refl (inr refl)
