@@ -254,22 +254,35 @@ fn changed(alloc: Global, bytes: &[u8], place: usize, byte: u8) -> Result<Vec<u8
     Ok(copy)
 }
 
+// The first and the last byte of each kind, and those beside them.
+const EDGES: &[u8] = b"\0\x09\n\x0B\r\x1F !+,-./019:@AFGZ[^_`afgz{\x7F\x80\xFF";
+
 fn changes_are_answered(alloc: Global, bytes: &[u8], place: usize) -> Result<bool, AllocError>
     requires { length bytes.now < 2 ^ 32 }
 {
     let mut answered = true;
-    for byte in 0..=255 {
-        let copy = changed(alloc, bytes, place, byte)?;
+    for byte in EDGES {
+        let copy = changed(alloc, bytes, place, *byte)?;
         let fault = fault_of(alloc, copy.as_slice());
         answered = answered && !matches!(fault, Some(MapFault::Memory));
     }
     Ok(answered)
 }
 
+// A short text with a line of each kind.
+const SHORT: &[u8] = b"efrp map 1\n\
+    event A T0 1 open 0000 commit 0001\n\
+    state b u8 020\n\
+    output PORTA\n\
+    sample A i 0002\n\
+    ready 0003\n\
+    regs 005-005\n\
+    report depth 0 ram 0 words 0 settle 0\n";
+
 #[test]
 fn each_changed_byte_is_answered(rt: HostRuntime) -> Result<(), Fail> {
-    for place in 0..SAMPLING.len() {
-        assert!(rt; changes_are_answered(rt.alloc(), SAMPLING, place)?);
+    for place in 0..SHORT.len() {
+        assert!(rt; changes_are_answered(rt.alloc(), SHORT, place)?);
     }
     Ok(())
 }
