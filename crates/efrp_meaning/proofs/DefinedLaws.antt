@@ -1,5 +1,5 @@
 -- Where no definition depends on itself on an event, each has a value of its type at the depth of as many as there are.
-use Rattle.std.specs.Prelude.{◌≡◌, ℕ, zero, suc, ◌<◌, ◌≤◌, ◌⊎◌, Bool, true, false, not, ◌||◌, List, [], ◌∷◌, length, map, filter, Option, Some, None, if◌then◌else◌, refl, option_and_then}
+use Rattle.std.specs.Prelude.{◌≡◌, ℕ, zero, suc, ◌≤◌, ◌⊎◌, Bool, true, false, ◌||◌, List, [], ◌∷◌, length, map, filter, Option, Some, None, if◌then◌else◌, refl, option_and_then}
 use Rattle.std.specs.List.{AllByRecursion, list_any}
 use Rattle.std.specs.Str.{bytes_eq}
 use Rattle.std.proofs.Common.{sym, ap, subst, ◌∙◌, arith}
@@ -17,10 +17,8 @@ use Rattle.efrp_meaning.specs.Needs.{names_in, IsNamedIn, clause_for}
 use Rattle.efrp_meaning.specs.Meaning.{State, Samples, value_at, old_state, sample_of, Always, Now, Later, clause_rule, rule_on, evaluate, stands_for, value_by, value_on, depth}
 use Rattle.efrp_meaning.specs.Causal.{dependencies_by, DependsOn, DependsThrough, IsCausalOn}
 use Rattle.efrp_meaning.specs.States.{HasValue, AreValuesOf, IsState, AreSamples}
+use Rattle.efrp_meaning.proofs.NameFacts.{without, without-shorter, others-kept}
 use Rattle.efrp_meaning.proofs.TypedValueLaws.{evaluate-typed, decl-typed, FoundTyped}
-
-same_bytes : (x : List ℕ) → bytes_eq x x ≡ true
-same_bytes x = (bytes_eq-Decides x x).1 refl
 
 -- The value at the place of a definition that a program finds by name: of its type, where each value is of its definition's.
 module _ (keep : BehaviourTree → Bool) (type : DeclTree → Ty) where
@@ -61,21 +59,9 @@ module _ (p : ProgramTree) (typed : IsTyped p) (s : State) (values : List ℕ �
   pub always-typed : (e : Tree) → ((y : List ℕ) → IsNamedIn y e → HasValue (type_of_name p y) (values y)) → HasValue (type_of p e) (evaluate p (stands_for p s values None) e)
   always-typed e known = evaluate-typed p typed (stands_for p s values None) e known
 
-  others-kept : (x y : List ℕ) → bytes_eq x y ≡ false → (names : List (List ℕ)) → list_any (bytes_eq y) names ≡ true → list_any (bytes_eq y) (filter (λ z. not (bytes_eq x z)) names) ≡ true
-  others-kept x y other [] h = h
-  others-kept x y other (n ∷ ns) h = by_name (bytes_eq y n) refl (bytes_eq x n) refl h (others-kept x y other ns)
-    where
-      by_name : (b : Bool) → bytes_eq y n ≡ b → (k : Bool) → bytes_eq x n ≡ k → (b || list_any (bytes_eq y) ns) ≡ true
-          → (list_any (bytes_eq y) ns ≡ true → list_any (bytes_eq y) (filter (λ z. not (bytes_eq x z)) ns) ≡ true)
-          → list_any (bytes_eq y) (if not k then n ∷ filter (λ z. not (bytes_eq x z)) ns else filter (λ z. not (bytes_eq x z)) ns) ≡ true
-      by_name true same true own h rest = absurd (false≢true (sym other ∙ ap (bytes_eq x) ((bytes_eq-Decides y n).0 same) ∙ own))
-      by_name true same false own h rest = ap (λ b. b || list_any (bytes_eq y) (filter (λ z. not (bytes_eq x z)) ns)) same
-      by_name false same true own h rest = rest h
-      by_name false same false own h rest = ap (λ b. b || list_any (bytes_eq y) (filter (λ z. not (bytes_eq x z)) ns)) same ∙ rest h
-
   -- The own name of a definition stands for its old state.
   pub own-typed : (x : List ℕ) (e : Tree) → HasValue (type_of_name p x) (old_state p s x)
-      → ((y : List ℕ) → list_any (bytes_eq y) (filter (λ z. not (bytes_eq x z)) (names_in e)) ≡ true → HasValue (type_of_name p y) (values y))
+      → ((y : List ℕ) → list_any (bytes_eq y) (without x (names_in e)) ≡ true → HasValue (type_of_name p y) (values y))
       → HasValue (type_of p e) (evaluate p (stands_for p s values (Some x)) e)
   own-typed x e old known = evaluate-typed p typed (stands_for p s values (Some x)) e (λ y named. by_name y named (bytes_eq x y) refl)
     where
@@ -150,26 +136,6 @@ declared-is-named (c ∷ cs) x d found = by_name (bytes_eq x c.name) found (decl
     by_name true found rest = refl
     by_name false found rest = rest found
 
--- A list without a name that is in it is shorter.
-abbrev without : List ℕ → List (List ℕ) → List (List ℕ)
-without x names = filter (λ y. not (bytes_eq x y)) names
-
-without-no-longer : (x : List ℕ) (names : List (List ℕ)) → length (without x names) ≤ length names
-without-no-longer x [] = omega arith
-without-no-longer x (n ∷ ns) = by_name (bytes_eq x n) (without-no-longer x ns)
-  where
-    by_name : (b : Bool) → length (without x ns) ≤ length ns → length (if not b then n ∷ without x ns else without x ns) ≤ length (n ∷ ns)
-    by_name true h = omega arith
-    by_name false h = omega arith
-
-without-shorter : (x : List ℕ) (names : List (List ℕ)) → list_any (bytes_eq x) names ≡ true → length (without x names) < length names
-without-shorter x [] h = absurd (false≢true h)
-without-shorter x (n ∷ ns) h = by_name (bytes_eq x n) h (without-no-longer x ns) (without-shorter x ns)
-  where
-    by_name : (b : Bool) → (b || list_any (bytes_eq x) ns) ≡ true → length (without x ns) ≤ length ns → (list_any (bytes_eq x) ns ≡ true → length (without x ns) < length ns) → length (if not b then n ∷ without x ns else without x ns) < length (n ∷ ns)
-    by_name true h most rest = omega arith
-    by_name false h most rest = let less = rest h in omega (arith, less)
-
 -- What a definition leads to on an event: itself, and what it depends on, directly or through others.
 abbrev LeadsTo : ProgramTree → List ℕ → List ℕ → List ℕ → Type 0
 LeadsTo p event x z = (z ≡ x) ⊎ ((others : List (List ℕ)) × DependsThrough p event x others z)
@@ -192,7 +158,7 @@ module _ (p : ProgramTree) (typed : IsTyped p) (s : State) (is_state : IsState p
 
       by_name : (b : Bool) → bytes_eq x z ≡ b → list_any (bytes_eq z) (without x names) ≡ true
       by_name true same = absurd (causal x path.0 (subst (DependsThrough p event x path.0) (sym ((bytes_eq-Decides x z).0 same)) path.1))
-      by_name false other = others-kept p typed s (λ y. None) x z other names (all z d found (inr path))
+      by_name false other = others-kept x z other names (all z d found (inr path))
 
   defined-within : (k : ℕ) (names : List (List ℕ)) (x : List ℕ) → length names ≤ k → HasAll x names → HasValue (type_of_name p x) (value_on p s j event x k)
   defined-within zero names x short all = by_definition (decl_named p.decls x) refl

@@ -4,7 +4,9 @@ pub mod DefinedLaws
 pub mod Examples
 pub mod FirstFormLaws
 pub mod MeaningLaws
+pub mod NameFacts
 pub mod NeedsLaws
+pub mod OrderLaws
 pub mod SampleLaws
 pub mod StateLaws
 pub mod TypedValueLaws

@@ -10,6 +10,7 @@ use mathlib.Core.Logic.{inl, inr}
 use Rattle.frp_tree.specs.Tree.{Tree, DeclTree, ProgramTree}
 use Rattle.efrp_meaning.specs.Decls.{is_plain}
 use Rattle.efrp_meaning.specs.Needs.{names_in, is_named_in, plain_expression, first_needed, expressions_of, plain_named_in, plain_reached}
+use Rattle.efrp_meaning.proofs.NameFacts.{or-right}
 use Rattle.efrp_meaning.specs.Laws.{NeedsAreClosed, NeedsAreLeast}
 
 -- On these definitions what passes the first test passes the second.
@@ -61,10 +62,6 @@ filter-none (d ∷ ds) = filter-none ds
 or-more : (a b c : Bool) → (b ≡ true → c ≡ true) → (a || b) ≡ true → (a || c) ≡ true
 or-more true b c more h = refl
 or-more false b c more h = more h
-
-or-right : (a b : Bool) → b ≡ true → (a || b) ≡ true
-or-right true b h = refl
-or-right false b h = h
 
 append-more : {X : Type 0} (test : X → Bool) (xs ys zs : List X) → (list_any test ys ≡ true → list_any test zs ≡ true) → list_any test (xs ++ ys) ≡ true → list_any test (xs ++ zs) ≡ true
 append-more test xs ys zs more h =

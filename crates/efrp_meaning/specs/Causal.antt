@@ -1,9 +1,9 @@
 -- Which definitions depend on which on an event, and programs in which none depends on itself.
-use Rattle.std.specs.Prelude.{◌≡◌, ℕ, true, not, List, [], ◌∷◌, filter, Some, None}
-use Rattle.std.specs.List.{list_any, AllByRecursion}
+use Rattle.std.specs.Prelude.{◌≡◌, ℕ, ◌+◌, Bool, true, not, nat_lt, if◌then◌else◌, List, [], ◌∷◌, map, filter, Some, None}
+use Rattle.std.specs.List.{list_any, list_all, AllByRecursion}
 use Rattle.std.specs.Str.{bytes_eq}
 use Rattle.frp_tree.specs.declared.syntax.Event.{Event}
-use Rattle.frp_tree.specs.Tree.{ProgramTree}
+use Rattle.frp_tree.specs.Tree.{DeclTree, ProgramTree}
 use Rattle.efrp_meaning.specs.Decls.{decl_named}
 use Rattle.efrp_meaning.specs.Needs.{names_in}
 use Rattle.efrp_meaning.specs.Meaning.{Rule, Always, Sampled, Tabled, Now, Later, Stays, rule_on}
@@ -38,3 +38,20 @@ IsCausalOn p event = (x : List ℕ) (others : List (List ℕ)) → DependsThroug
 -- On none of its events.
 abbrev pub IsCausal : ProgramTree → Type 0
 IsCausal p = AllByRecursion (λ (e : Event). IsCausalOn p e.name) p.events
+
+-- The place of a name in a list; where it isn't there, the number of the list's names.
+abbrev pub place_of : List (List ℕ) → List ℕ → ℕ
+place_of [] x = 0
+place_of (n ∷ ns) x = if bytes_eq n x then 0 else place_of ns x + 1
+
+-- What the definition of this name depends on stands before it.
+abbrev pub stands_behind : ProgramTree → List ℕ → List (List ℕ) → List ℕ → Bool
+stands_behind p event order x = list_all (λ y. nat_lt (place_of order y) (place_of order x)) (dependencies p event x)
+
+-- An order on an event: each definition stands behind those on which it depends.
+abbrev pub IsOrderOn : ProgramTree → List ℕ → List (List ℕ) → Type 0
+IsOrderOn p event order = list_all (λ (d : DeclTree). stands_behind p event order d.name) p.decls ≡ true
+
+-- What definitions depend on is declared.
+abbrev pub DependsOnDeclared : ProgramTree → List ℕ → Type 0
+DependsOnDeclared p event = (x y : List ℕ) → DependsOn p event x y → list_any (bytes_eq y) (map (λ (d : DeclTree). d.name) p.decls) ≡ true

@@ -2,6 +2,7 @@
 ghost use Rattle.frp_tree.specs.Tree.{ProgramTree};
 ghost use Rattle.efrp_meaning.specs.Laws.{
   BeginsInAState,
+  CausalIsOrdered,
   HasPortValues,
   HasTypedValues,
   IgnoresSamples,
@@ -9,6 +10,7 @@ ghost use Rattle.efrp_meaning.specs.Laws.{
   LeadsRound,
   NeedsAreClosed,
   NeedsAreLeast,
+  OrderedIsCausal,
   ReactsToAState,
   RunsToAState,
   Solves,
@@ -33,6 +35,16 @@ pub fn solves()
 /// Where each name of a list depends on one of the list, one of them depends on itself.
 pub fn leads_round()
     ensures { (p : ProgramTree) → LeadsRound p }
+{}
+
+/// Where the definitions have an order on an event, each behind those on which it depends, none depends on itself.
+pub fn ordered_is_causal()
+    ensures { (p : ProgramTree) → OrderedIsCausal p }
+{}
+
+/// Where none depends on itself, and all depend on declared ones, they have such an order.
+pub fn causal_is_ordered()
+    ensures { (p : ProgramTree) → CausalIsOrdered p }
 {}
 
 /// The port values of an event are defined, a byte for each output.

@@ -7,6 +7,7 @@
 mod laws;
 
 pub use laws::{
-    begins_in_a_state, has_port_values, has_typed_values, ignores_samples, is_defined_at_depth,
-    leads_round, needs_are_closed, needs_are_least, reacts_to_a_state, runs_to_a_state, solves,
+    begins_in_a_state, causal_is_ordered, has_port_values, has_typed_values, ignores_samples,
+    is_defined_at_depth, leads_round, needs_are_closed, needs_are_least, ordered_is_causal,
+    reacts_to_a_state, runs_to_a_state, solves,
 };
