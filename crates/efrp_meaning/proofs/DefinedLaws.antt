@@ -128,7 +128,7 @@ module _ (p : ProgramTree) (typed : IsTyped p) (s : State) (is_state : IsState p
             no_table (Reactive init clauses) h = refl
 
 -- A name that is declared is one of the names of the definitions.
-declared-is-named : (ds : List DeclTree) (x : List ℕ) (d : DeclTree) → decl_named ds x ≡ Some d → list_any (bytes_eq x) (map (λ c. c.name) ds) ≡ true
+pub declared-is-named : (ds : List DeclTree) (x : List ℕ) (d : DeclTree) → decl_named ds x ≡ Some d → list_any (bytes_eq x) (map (λ c. c.name) ds) ≡ true
 declared-is-named [] x d found = absurd (none-some d found)
 declared-is-named (c ∷ cs) x d found = by_name (bytes_eq x c.name) found (declared-is-named cs x d)
   where

@@ -1,5 +1,6 @@
 pub mod CausalLaws
 pub mod CycleLaws
+pub mod DeclaredFacts
 pub mod DefinedLaws
 pub mod Examples
 pub mod FirstFormLaws

@@ -9,9 +9,10 @@ use Rattle.std.proofs.lemmas.List.Folds.{list_any-append}
 use Rattle.std.proofs.lemmas.Slice.Eq.{bytes_eq-Decides}
 use mathlib.Core.Logic.{inl, inr}
 use Rattle.frp_tree.specs.Tree.{DeclTree, ProgramTree}
-use Rattle.efrp_meaning.specs.Causal.{dependencies, DependsOn, IsCausalOn, place_of, stands_behind, IsOrderOn, DependsOnDeclared}
+use Rattle.efrp_meaning.specs.Causal.{dependencies, DependsOn, IsCausalOn, place_of, stands_behind, IsOrderOn}
 use Rattle.efrp_meaning.specs.Laws.{CausalIsOrdered}
 use Rattle.efrp_meaning.proofs.CycleLaws.{leads-round}
+use Rattle.efrp_meaning.proofs.DeclaredFacts.{depends-on-declared}
 use Rattle.efrp_meaning.proofs.NameFacts.{or-right, is_in, same_bytes, Sides, sides, member-passes, all-pass, one-fails, without, without-shorter, others-kept}
 
 -- The place of a name that is in a list is within it, and stays where more names follow; that of one that isn't is at its end.
@@ -122,7 +123,7 @@ module _ (p : ProgramTree) (event : List ℕ) where
       behind = all-pass (λ y. nat_lt (place_of order y) (place_of order d.name)) (dependencies p event d.name) (λ y depends.
           lt-ltb _ _ (ordered d.name (all d.name (ap (λ b. b || is_in (map (λ (c : DeclTree). c.name) ds) d.name) (same_bytes d.name))) y depends))
 
-  module _ (on_declared : DependsOnDeclared p event) (causal : IsCausalOn p event) where
+  module _ (on_declared : (x y : List ℕ) → DependsOn p event x y → is_in declared y ≡ true) (causal : IsCausalOn p event) where
     abbrev Covers : List (List ℕ) → List (List ℕ) → Type 0
     Covers order left = (z : List ℕ) → is_in declared z ≡ true → (is_in order z ≡ true) ⊎ (is_in left z ≡ true)
 
@@ -178,5 +179,5 @@ module _ (p : ProgramTree) (event : List ℕ) where
         by_search (inr waits) rest = absurd (no-circle order n ns covers waits)
 
 pub causal-is-ordered : (p : ProgramTree) → CausalIsOrdered p
-causal-is-ordered p event on_declared causal =
-    order-from p event on_declared causal (length (declared p event)) [] (declared p event) (omega arith) (λ z inside. absurd (false≢true inside)) (λ z its. inr its)
+causal-is-ordered p event typed causal =
+    order-from p event (depends-on-declared p typed event) causal (length (declared p event)) [] (declared p event) (omega arith) (λ z inside. absurd (false≢true inside)) (λ z its. inr its)

@@ -136,7 +136,7 @@ are_alike (Some U16) (Some ty.Bool) = inl refl
 are_alike (Some U16) (Some U8) = inl refl
 are_alike (Some U16) (Some U16) = inr (U16, refl, refl, refl)
 
-no_type : (op : BinOp) (s t : Option Ty) → common_type s t ≡ None → binary_type op s t ≡ None
+pub no_type : (op : BinOp) (s t : Option Ty) → common_type s t ≡ None → binary_type op s t ≡ None
 no_type Or s t e = rw e refl
 no_type And s t e = rw e refl
 no_type Eq s t e = rw e refl

@@ -1,5 +1,5 @@
 -- Which definitions depend on which on an event, and programs in which none depends on itself.
-use Rattle.std.specs.Prelude.{◌≡◌, ℕ, ◌+◌, Bool, true, not, nat_lt, if◌then◌else◌, List, [], ◌∷◌, map, filter, Some, None}
+use Rattle.std.specs.Prelude.{◌≡◌, ℕ, ◌+◌, Bool, true, not, nat_lt, if◌then◌else◌, List, [], ◌∷◌, filter, Some, None}
 use Rattle.std.specs.List.{list_any, list_all, AllByRecursion}
 use Rattle.std.specs.Str.{bytes_eq}
 use Rattle.frp_tree.specs.declared.syntax.Event.{Event}
@@ -51,7 +51,3 @@ stands_behind p event order x = list_all (λ y. nat_lt (place_of order y) (place
 -- An order on an event: each definition stands behind those on which it depends.
 abbrev pub IsOrderOn : ProgramTree → List ℕ → List (List ℕ) → Type 0
 IsOrderOn p event order = list_all (λ (d : DeclTree). stands_behind p event order d.name) p.decls ≡ true
-
--- What definitions depend on is declared.
-abbrev pub DependsOnDeclared : ProgramTree → List ℕ → Type 0
-DependsOnDeclared p event = (x y : List ℕ) → DependsOn p event x y → list_any (bytes_eq y) (map (λ (d : DeclTree). d.name) p.decls) ≡ true

@@ -7,7 +7,7 @@ use Rattle.efrp_meaning.specs.Decls.{decl_named, inputs_of}
 use Rattle.efrp_meaning.specs.Types.{type_of_name, type_of, IsTyped}
 use Rattle.efrp_meaning.specs.Needs.{IsNamedIn, first_needed, expressions_of, plain_named_in, needed_plain, needed}
 use Rattle.efrp_meaning.specs.Meaning.{State, Samples, Occurrence, SerialRun, Reaction, rule_on, evaluate, value_by, value_on, depth, port_values, react, initial_state, serial}
-use Rattle.efrp_meaning.specs.Causal.{DependsOn, DependsThrough, IsCausalOn, IsCausal, IsOrderOn, DependsOnDeclared}
+use Rattle.efrp_meaning.specs.Causal.{DependsOn, DependsThrough, IsCausalOn, IsCausal, IsOrderOn}
 use Rattle.efrp_meaning.specs.States.{HasValue, IsState, AreSamples, ArePortValues, IsOccurrence, NamesDiffer}
 
 -- An expression that has a type has a value of it, where the names in it have values of theirs.
@@ -41,7 +41,7 @@ OrderedIsCausal p = (event : List ℕ) (order : List (List ℕ)) → IsOrderOn p
 
 -- And where none depends on itself, they have one.
 abbrev pub CausalIsOrdered : ProgramTree → Type 0
-CausalIsOrdered p = (event : List ℕ) → DependsOnDeclared p event → IsCausalOn p event → (order : List (List ℕ)) × IsOrderOn p event order
+CausalIsOrdered p = (event : List ℕ) → IsTyped p → IsCausalOn p event → (order : List (List ℕ)) × IsOrderOn p event order
 
 -- The port values of an event are defined, a byte for each output.
 abbrev pub HasPortValues : ProgramTree → Type 0

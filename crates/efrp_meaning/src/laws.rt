@@ -42,7 +42,7 @@ pub fn ordered_is_causal()
     ensures { (p : ProgramTree) → OrderedIsCausal p }
 {}
 
-/// Where none depends on itself, and all depend on declared ones, they have such an order.
+/// Where none of a typed program depends on itself, they have such an order.
 pub fn causal_is_ordered()
     ensures { (p : ProgramTree) → CausalIsOrdered p }
 {}

@@ -1,5 +1,5 @@
 -- Entries of tables: by their number, and the last one past the end.
-use Rattle.std.specs.Prelude.{◌≡◌, ℕ, List, [], ◌∷◌, Some, None, codes, refl, true, false}
+use Rattle.std.specs.Prelude.{◌≡◌, ℕ, ◌+◌, List, [], ◌∷◌, Some, None, codes, refl, true, false}
 use Rattle.frp_tree.specs.declared.syntax.Ty.TheVariants.{U8, U16}
 use Rattle.frp_tree.specs.declared.syntax.Ty.TheVariants as ty
 use Rattle.frp_tree.specs.declared.syntax.Lit.TheVariants as lit
@@ -7,6 +7,7 @@ use Rattle.frp_tree.specs.Tree.{Name, Look, ProgramTree}
 use Rattle.efrp_meaning.specs.Types.{type_of}
 use Rattle.efrp_meaning.specs.Values.{entry_at, number_at}
 use Rattle.efrp_meaning.specs.Meaning.{Occurrence, value_on, expression_on, initial_state, serial}
+use Rattle.efrp_meaning.specs.Bounds.{state_bytes, table_words}
 use Rattle.efrp_meaning.proofs.Examples.Programs.{wave, table, small, wide, tick, on_go}
 
 abbrev three : List ℕ
@@ -68,6 +69,14 @@ bool_index = refl
 
 pub no_such_table : type_of tables (Look (codes "stairs") (small 0)) ≡ None
 no_such_table = refl
+
+-- In words of the program: one for each byte of an entry, and 16 for each byte of the type.
+pub words_of_tables : table_words tables ≡ 17 + (34 + 17)
+words_of_tables = refl
+
+-- A table is no state.
+pub no_state_bytes : state_bytes tables ≡ 0
+no_state_bytes = refl
 
 -- A table's name alone has no type and no value, and a definition that is no table isn't indexed.
 pub table_alone : type_of wave (Name (codes "wave")) ≡ None

@@ -8,8 +8,8 @@ use Rattle.frp_tree.specs.declared.syntax.BinOp.{BinOp}
 use Rattle.frp_tree.specs.declared.syntax.BinOp.TheVariants.{Or, And, Eq, Ne, Lt, Le, Gt, Ge, BitOr, BitXor, BitAnd, Add, Sub, Mul, Div, Rem}
 use Rattle.frp_tree.specs.declared.syntax.Side.TheVariants.{Left, Right}
 use Rattle.frp_tree.specs.Tree.{Tree, Const, Name, Unary, Binary, Shift, If, Convert, Look, ProgramTree}
-use Rattle.efrp_meaning.specs.Bounds.{weight, result_bytes}
-use Rattle.efrp_meaning.proofs.Examples.Programs.{small, wide, plain, table, on_go}
+use Rattle.efrp_meaning.specs.Bounds.{weight, result_bytes, state_bytes}
+use Rattle.efrp_meaning.proofs.Examples.Programs.{small, wide, plain, reactive, table, on_go}
 
 -- A name and a table of each type.
 abbrev typed : ProgramTree
@@ -225,3 +225,10 @@ bytes_of_look_8 = refl
 
 pub bytes_of_look_16 : result_bytes typed (Look (codes "words") (small 1)) ≡ 2 + 1
 bytes_of_look_16 = refl
+
+-- The bytes of states: one for a bool and a u8, two for a u16.
+abbrev states : ProgramTree
+states = on_go (reactive (codes "f") ty.Bool (lit.Truth true) [] ∷ reactive (codes "b") U8 (lit.Plain 1) [] ∷ reactive (codes "w") U16 (lit.Wide 1) [] ∷ [])
+
+pub bytes_of_states : state_bytes states ≡ 1 + (1 + 2)
+bytes_of_states = refl
