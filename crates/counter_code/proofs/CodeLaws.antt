@@ -2,6 +2,7 @@
 use Rattle.std.proofs.Common.{length-append, ◌≡◌, ℕ, ◌+◌, ◌<◌, ◌≤◌, zero, suc, true, false, List, [], ◌∷◌, ◌++◌, Option, Some, None, IfSome, length, take, drop, arith, lit<, lit≤, ap, cond}
 use Rattle.std.specs.List.{AllByRecursion}
 use Rattle.std.proofs.lemmas.Bool.Decides.{nat_tests}
+use Rattle.pic_isa.specs.declared.bits.TheConstants.{RP0, GIE}
 use Rattle.pic_isa.specs.declared.instructions.Instr.{Instr}
 use Rattle.pic_isa.specs.declared.instructions.Instr.TheVariants.{Bcf, Bsf, Goto}
 use Rattle.pic_isa.specs.declared.sources.Source.{Source}
@@ -125,15 +126,15 @@ length_enable source = elim (is_peripheral source) as (λ b. length (cond b (set
 
 length_within : (code : List Instr) → length (within_bank_1 code) ≤ length code + 2
 length_within [] = omega arith
-length_within (i ∷ code) = omega (arith, length-append (i ∷ code) (Bcf status 5 ∷ []))
+length_within (i ∷ code) = omega (arith, length-append (i ∷ code) (Bcf status RP0 ∷ []))
 
 -- Boot has at most twelve instructions.
 pub length_boot : (c : Counter) → length (boot_code c) ≤ 12
 length_boot c =
     omega (
       arith,
-      length-append (setup_in_bank_0 c.setup) (within_bank_1 (bank_1_code c) ++ intcon_enable c.source ∷ Bsf intcon 7 ∷ []),
-      length-append (within_bank_1 (bank_1_code c)) (intcon_enable c.source ∷ Bsf intcon 7 ∷ []),
+      length-append (setup_in_bank_0 c.setup) (within_bank_1 (bank_1_code c) ++ intcon_enable c.source ∷ Bsf intcon GIE ∷ []),
+      length-append (within_bank_1 (bank_1_code c)) (intcon_enable c.source ∷ Bsf intcon GIE ∷ []),
       length-append (setup_in_bank_1 c.setup) (cond (is_peripheral c.source) (set_bit (enable_of c.source) ∷ []) []),
       length_within (bank_1_code c),
       length_low c.setup,

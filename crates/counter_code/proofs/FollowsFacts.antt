@@ -1,7 +1,7 @@
 -- A counter whose log tells its story follows its program, over the first n steps for every n.
 use Rattle.std.specs.Prelude.{ℕ, suc, ◌≤◌, ◌<◌, Bool, true, false, List, [], ◌∷◌, ◌++◌, Some, flat_map, map, take, ◌⊎◌}
 use Rattle.std.proofs.Common.{◌≡◌, refl, sym, ◌∙◌, ap, inl, inr, arith, append-nil}
-use Rattle.std.proofs.lemmas.Bool.{both_ways, false_from_ne_true}
+use Rattle.std.proofs.lemmas.Bool.{both_ways, cases_lt, false_from_ne_true}
 use Rattle.efrp_meaning.specs.Meaning.{Reaction, react, state_after, ports_after}
 use Rattle.pic_machine.specs.Run.{Log}
 use Rattle.counter_code.specs.declared.counters.Counter.{Counter}
@@ -14,7 +14,7 @@ use Rattle.firmware_promises.specs.Follows.{Follows, ReadyInTime, BootIsQuiet, A
 use Rattle.firmware_promises.proofs.CountLaws.{one_more}
 use Rattle.firmware_promises.proofs.ListLaws.{no_longer, same_last}
 use Rattle.firmware_promises.proofs.SampleLaws.{unsampled, no_samples, reactions_are_commits, windows_are_sampled}
-use Rattle.firmware_promises.proofs.ReadyLaws.{before_or_from, not_ready_before, unready}
+use Rattle.firmware_promises.proofs.ReadyLaws.{not_ready_before, unready}
 use Rattle.counter_code.proofs.SerialFacts.{events, occurrences, occurrences_are, value, values, reaction_from, state_is, ports_are, reacts, puts_values}
 use Rattle.counter_code.proofs.PastFacts.{from_ready, each_moment}
 use Rattle.counter_code.proofs.ReactionFacts.{opened, committed, named, window_is, opened_in_boot, committed_in_boot, opens_in_boot, commits_in_boot, opened_at, committed_at, opens_are, commits_are, value_is, writes_are}
@@ -65,7 +65,7 @@ module _ (c : Counter) (log : Log) (story : Story c log) (n : ℕ) where
   ready_from r is_it = not_ready_before (map_of c) log n story.ready unready_in_boot r is_it
 
   in_boot : (k : ℕ) → k ≤ n → BeforeReady (map_of c) log n k → k < story.ready
-  in_boot k h before = by (before_or_from k story.ready)
+  in_boot k h before = by (cases_lt k story.ready)
     where
       by : (k < story.ready) ⊎ (story.ready ≤ k) → k < story.ready
       by (inl is_before) = is_before

@@ -4,6 +4,7 @@ use Rattle.std.specs.Prelude.{◌==◌}
 use Rattle.std.specs.List.{list_any}
 use Rattle.std.proofs.lemmas.Bool.{cases_eq, or_left, or_right}
 use Rattle.std.proofs.lemmas.List.{length-append}
+use Rattle.pic_isa.specs.declared.bits.TheConstants.{GIE}
 use Rattle.pic_isa.specs.declared.instructions.Instr.{Instr}
 use Rattle.pic_isa.specs.declared.instructions.Instr.TheVariants.{Bsf}
 use Rattle.pic_isa.proofs.UniqueNameLaws.{port_called_back}
@@ -18,7 +19,7 @@ use Rattle.counter_code.proofs.ListedFacts.{listed_is_written}
 -- Boot has at least four instructions: two of the state's first value, and two of the enables.
 boot_at_least : (c : Counter) → 4 ≤ length (boot_code c)
 boot_at_least c =
-    let ends = intcon_enable c.source ∷ Bsf intcon 7 ∷ [] in
+    let ends = intcon_enable c.source ∷ Bsf intcon GIE ∷ [] in
     omega (arith, length-append (setup_in_bank_0 c.setup) (within_bank_1 (bank_1_code c) ++ ends), length-append (within_bank_1 (bank_1_code c)) ends)
 
 -- Each address of the code has a word.

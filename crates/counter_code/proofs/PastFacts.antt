@@ -1,7 +1,7 @@
 -- Moments by how many steps they are past the ready boundary.
 use Rattle.std.specs.Prelude.{ℕ, zero, suc, ◌+◌, ◌-◌, ◌≤◌, ◌<◌, ◌⊎◌}
 use Rattle.std.proofs.Common.{◌≡◌, subst, inl, inr, arith}
-use Rattle.firmware_promises.proofs.ReadyLaws.{before_or_from}
+use Rattle.std.proofs.lemmas.Bool.{cases_lt}
 use Rattle.counter_code.proofs.StoryFacts.{past}
 
 pub past_is : (ready k : ℕ) → past ready k ≡ ready + k
@@ -18,7 +18,7 @@ module _ (ready : ℕ) (P : ℕ → Type 0) where
   from_ready at n h = let it = steps_past ready n h in subst P it.1 (at it.0)
 
   pub each_moment : ((k : ℕ) → k < ready → P k) → ((k : ℕ) → P (past ready k)) → (n : ℕ) → P n
-  each_moment in_boot at n = by (before_or_from n ready)
+  each_moment in_boot at n = by (cases_lt n ready)
     where
       by : (n < ready) ⊎ (ready ≤ n) → P n
       by (inl h) = in_boot n h

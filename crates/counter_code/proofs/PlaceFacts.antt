@@ -44,10 +44,8 @@ pub record Facts (c : Counter) (place : Place) (x : Chip) (step : Step) : Type 0
 not_ready_address : (kind : Kind) (peripheral : Bool) → ((ready_at kind peripheral == 7) ≡ false) × ((ready_at kind peripheral == 8) ≡ false)
 not_ready_address NoSetup true = (refl, refl)
 not_ready_address NoSetup false = (refl, refl)
-not_ready_address LowSetup true = (refl, refl)
-not_ready_address LowSetup false = (refl, refl)
-not_ready_address HighSetup true = (refl, refl)
-not_ready_address HighSetup false = (refl, refl)
+not_ready_address _ true = (refl, refl)
+not_ready_address _ false = (refl, refl)
 
 ready_opens_not : (c : Counter) → (ready_address c == 7) ≡ false
 ready_opens_not c = ap (λ a. a == 7) (ready_is c) ∙ (not_ready_address (kind_of c.setup) (is_peripheral c.source)).0

@@ -65,10 +65,8 @@ Standing kind peripheral =
 standing : (kind : Kind) (peripheral : Bool) → Standing kind peripheral
 standing NoSetup true = (refl, refl, refl, refl, refl, refl, refl)
 standing NoSetup false = (refl, refl, refl, refl, refl, refl, refl)
-standing LowSetup true = (refl, refl, refl, refl, refl, refl, refl)
-standing LowSetup false = (refl, refl, refl, refl, refl, refl, refl)
-standing HighSetup true = (refl, refl, refl, refl, refl, refl, refl)
-standing HighSetup false = (refl, refl, refl, refl, refl, refl, refl)
+standing _ true = (refl, refl, refl, refl, refl, refl, refl)
+standing _ false = (refl, refl, refl, refl, refl, refl, refl)
 
 place_stands : (c : Counter) (place : Place) → spot_at (standing_order (kind_of c.setup) (is_peripheral c.source)) (address_at c place) ≡ Some (At place)
 place_stands c Rests = ap (spot_at (standing_order (kind_of c.setup) (is_peripheral c.source))) (ready_is c) ∙ (standing (kind_of c.setup) (is_peripheral c.source)).6

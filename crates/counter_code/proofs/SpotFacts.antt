@@ -3,6 +3,7 @@ use Rattle.std.specs.Prelude.{ℕ, zero, suc, ◌+◌, Bool, true, false, List, 
 use Rattle.std.specs.List.{AllByRecursion}
 use Rattle.std.proofs.Common.{◌≡◌, refl, ap, subst, ◌∙◌, arith}
 use Rattle.std.proofs.lemmas.Bool.{eq-eqb, ne_eqb}
+use Rattle.pic_isa.specs.declared.bits.TheConstants.{RP0, GIE}
 use Rattle.pic_isa.specs.declared.instructions.Dest.TheVariants.{W}
 use Rattle.pic_isa.specs.declared.instructions.Instr.{Instr}
 use Rattle.pic_isa.specs.declared.instructions.Instr.TheVariants.{Addwf, Bcf, Bsf, Goto, Movlw, Movwf, Retfie}
@@ -63,11 +64,11 @@ instruction c LoadsInit = Movlw c.init
 instruction c StoresInit = Movwf state_byte
 instruction c LoadsSetup = Movlw (byte_of c.setup)
 instruction c StoresSetup = Movwf (low_bits (address_of c.setup))
-instruction c ChoosesHigh = Bsf status 5
+instruction c ChoosesHigh = Bsf status RP0
 instruction c EnablesHigh = set_bit (enable_of c.source)
-instruction c ChoosesLow = Bcf status 5
+instruction c ChoosesLow = Bcf status RP0
 instruction c Enables = intcon_enable c.source
-instruction c TurnsOn = Bsf intcon 7
+instruction c TurnsOn = Bsf intcon GIE
 instruction c Jumps = Goto boot_rest
 instruction c (At place) = instruction_at c place
 
@@ -125,7 +126,7 @@ enables_is c false = refl
 -- The boot's code by its parts.
 abbrev boot_by : Counter → List Instr → List Instr → List Instr → List Instr
 boot_by c lows highs enable =
-    Movlw c.init ∷ Movwf state_byte ∷ (lows ++ (within_bank_1 (highs ++ enable) ++ intcon_enable c.source ∷ Bsf intcon 7 ∷ []))
+    Movlw c.init ∷ Movwf state_byte ∷ (lows ++ (within_bank_1 (highs ++ enable) ++ intcon_enable c.source ∷ Bsf intcon GIE ∷ []))
 
 abbrev code_by : Counter → List Instr → List Instr → List Instr → List Instr
 code_by c lows highs enable =
@@ -135,19 +136,15 @@ boot_of_shape : (c : Counter) (kind : Kind) (peripheral : Bool) →
     boot_by c (map (instruction c) (low kind)) (map (instruction c) (high kind)) (map (instruction c) (enables_high peripheral)) ≡ map (instruction c) (boot_spots kind peripheral)
 boot_of_shape c NoSetup true = refl
 boot_of_shape c NoSetup false = refl
-boot_of_shape c LowSetup true = refl
-boot_of_shape c LowSetup false = refl
-boot_of_shape c HighSetup true = refl
-boot_of_shape c HighSetup false = refl
+boot_of_shape c _ true = refl
+boot_of_shape c _ false = refl
 
 code_of_shape : (c : Counter) (kind : Kind) (peripheral : Bool) →
     code_by c (map (instruction c) (low kind)) (map (instruction c) (high kind)) (map (instruction c) (enables_high peripheral)) ≡ map (instruction c) (standing_order kind peripheral)
 code_of_shape c NoSetup true = refl
 code_of_shape c NoSetup false = refl
-code_of_shape c LowSetup true = refl
-code_of_shape c LowSetup false = refl
-code_of_shape c HighSetup true = refl
-code_of_shape c HighSetup false = refl
+code_of_shape c _ true = refl
+code_of_shape c _ false = refl
 
 pub boot_is : (c : Counter) → boot_code c ≡ map (instruction c) (boot_spots (kind_of c.setup) (is_peripheral c.source))
 boot_is c = (λ i. boot_by c (low_is c c.setup i) (high_is c c.setup i) (enables_is c (is_peripheral c.source) i)) ∙ boot_of_shape c (kind_of c.setup) (is_peripheral c.source)

@@ -36,10 +36,8 @@ use Rattle.counter_code.proofs.PlaceFacts.{Facts, led, ledger_of, not_cleared}
 soon : (kind : Kind) (peripheral : Bool) → length (running_order kind peripheral) ≤ 13
 soon NoSetup true = lit≤ tt
 soon NoSetup false = lit≤ tt
-soon LowSetup true = lit≤ tt
-soon LowSetup false = lit≤ tt
-soon HighSetup true = lit≤ tt
-soon HighSetup false = lit≤ tt
+soon _ true = lit≤ tt
+soon _ false = lit≤ tt
 
 -- Where control is, from the ready boundary on.
 abbrev pub place_in : Log → ℕ → ℕ → Place

@@ -1,15 +1,14 @@
 -- A counter whose log tells its story is urgent, over the first n steps for every n.
-use Rattle.std.specs.Prelude.{ℕ, suc, ◌+◌, ◌≤◌, ◌<◌, Bool, true, false, not, ◌&&◌, ◌||◌, ◌⊎◌}
-use Rattle.std.proofs.Common.{◌≡◌, refl, sym, ◌∙◌, ap, ap₂, subst, add-one, arith}
+use Rattle.std.specs.Prelude.{ℕ, suc, ◌+◌, ◌≤◌, ◌<◌, Bool, true, false, not, ◌&&◌, ◌||◌}
+use Rattle.std.proofs.Common.{◌≡◌, refl, sym, ◌∙◌, ap, ap₂, arith}
 use Rattle.std.proofs.lemmas.Bool.{both_ways}
-use Rattle.pic_regs.specs.Registers.{flag, enable}
 use Rattle.pic_machine.specs.Boundary.{Step}
 use Rattle.pic_machine.specs.Run.{Log}
 use Rattle.counter_code.specs.declared.counters.Counter.{Counter}
 use Rattle.counter_code.specs.Counters.{IsCounter, program_of}
 use Rattle.counter_code.specs.Maps.{map_of}
 use Rattle.firmware_promises.specs.Counts.{takes, interrupts_on}
-use Rattle.firmware_promises.specs.Urgent.{Urgent, NoOvertaking, InterruptsComeOn, Listens, WorkIsOpen, TakesInTime, Stretch, AtOne, is_in_intcon, is_heard, opens_one, asks_for_opening, gives_opening}
+use Rattle.firmware_promises.specs.Urgent.{Urgent, NoOvertaking, InterruptsComeOn, Listens, WorkIsOpen, TakesInTime, Stretch, AtOne, is_heard, opens_one, asks_for_opening, gives_opening}
 use Rattle.firmware_promises.proofs.FallLaws.{falls_to_zero}
 use Rattle.counter_code.proofs.PastFacts.{past_is, from_ready, each_moment}
 use Rattle.counter_code.proofs.FollowsFacts.{ready_from}
@@ -83,26 +82,12 @@ module _ (c : Counter) (log : Log) (story : Story c log) where
           let it = soon interrupts_on story.on_when (past story.ready (suc i)) (omega (arith, past_is story.ready (suc i))) in
           (it.0, let h = it.1 in omega arith, let h = it.2 in omega arith, ap (λ b. b || opens_one (map_of c).events (log it.0) || takes (log it.0)) it.3)
 
-  -- What is heard with its flag set is taken at this step or the next. In the boot nothing is heard.
-  abbrev Taken : ℕ → Type 0
-  Taken k = is_heard (event_in_map c) (log k) ≡ true → flag c.source (log k).arrived.regs ≡ true → (takes (log k) ≡ true) ⊎ (takes (log (suc k)) ≡ true)
-
-  unheard : (k : ℕ) → k < story.ready → is_heard (event_in_map c) (log k) ≡ false
-  unheard k h = ap (λ on. on && enable c.source (log k).arrived.regs && (is_in_intcon c.source || (log k).arrived.regs.intcon.b6)) (story.boot_is_off k h)
-
-  taken : (k : ℕ) → Taken k
-  taken = each_moment story.ready Taken
-      (λ k is_before heard is_set. absurd (both_ways (is_heard (event_in_map c) (log k)) (unheard k is_before) heard))
-      (λ k heard is_set. story.takes_in_time k (sym (story.hears_when k) ∙ heard) is_set)
-
-  in_time : (n : ℕ) → TakesInTime (map_of c) log n
-  in_time n k h = ((λ heard is_set. subst (λ j. (takes (log k) ≡ true) ⊎ (takes (log j) ≡ true)) (sym (add-one k)) (taken k heard is_set)), tt)
-
-pub story-urgent : (c : Counter) (log : Log) → IsCounter c → Story c log → (n : ℕ) → Urgent (program_of c) (map_of c) log n
-story-urgent c log is story n = record {
+-- What is heard is taken in time in each run of the chip.
+pub story-urgent : (c : Counter) (log : Log) → IsCounter c → Story c log → (n : ℕ) → TakesInTime (map_of c) log n → Urgent (program_of c) (map_of c) log n
+story-urgent c log is story n in_time = record {
   no_overtaking = no_overtaking c log story n;
   interrupts_off = interrupts_off c log story n;
   listening = listening c log story n;
   open_work = open_work c log story n;
-  in_time = in_time c log story n;
+  in_time = in_time;
 }

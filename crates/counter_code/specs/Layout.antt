@@ -3,6 +3,8 @@ use Rattle.std.specs.Prelude.{ℕ, ◌+◌, ◌-◌, Bool, nat_le, List, [], ◌
 use Rattle.pic_isa.specs.declared.instructions.Dest.TheVariants.{W}
 use Rattle.pic_isa.specs.declared.instructions.Instr.{Instr}
 use Rattle.pic_isa.specs.declared.instructions.Instr.TheVariants.{Addwf, Bcf, Bsf, Goto, Movlw, Movwf, Retfie}
+use Rattle.pic_isa.specs.declared.bits.TheConstants.{RP0, PEIE, GIE}
+use Rattle.pic_isa.specs.declared.registers.TheConstants.{STATUS, INTCON, PORTA}
 use Rattle.pic_isa.specs.declared.sources.Source.{Source}
 use Rattle.pic_isa.specs.declared.sources.BitAt.{BitAt}
 use Rattle.pic_isa.specs.Instructions.{word_of}
@@ -12,18 +14,18 @@ use Rattle.hex_file.specs.declared.images.Image.{Image}
 use Rattle.counter_code.specs.declared.counters.Counter.{Counter}
 use Rattle.counter_code.specs.declared.counters.SetupAt.{SetupAt}
 
--- Addresses: STATUS, whose bit 5 chooses bank 1, INTCON, whose bits 7 and 6 are GIE and PEIE, and the state.
+-- Addresses: STATUS, whose bit RP0 chooses bank 1, INTCON, which has GIE and PEIE, and the state.
 abbrev pub status : ℕ
-status = 0x003
+status = STATUS
 
 abbrev pub intcon : ℕ
-intcon = 0x00B
+intcon = INTCON
 
 abbrev pub state_byte : ℕ
 state_byte = 0x020
 
 abbrev pub port_address : ℕ → ℕ
-port_address port = 5 + port
+port_address port = PORTA + port
 
 -- An address lies in bank 1, and its low seven bits.
 abbrev pub in_bank_1 : ℕ → Bool
@@ -60,16 +62,16 @@ bank_1_code c = setup_in_bank_1 c.setup ++ (if is_peripheral c.source then set_b
 
 abbrev pub within_bank_1 : List Instr → List Instr
 within_bank_1 [] = []
-within_bank_1 (i ∷ is) = Bsf status 5 ∷ ((i ∷ is) ++ Bcf status 5 ∷ [])
+within_bank_1 (i ∷ is) = Bsf status RP0 ∷ ((i ∷ is) ++ Bcf status RP0 ∷ [])
 
 -- The enable of a source in INTCON, or else PEIE.
 abbrev pub intcon_enable : Source → Instr
-intcon_enable source = if is_peripheral source then Bsf intcon 6 else set_bit (enable_of source)
+intcon_enable source = if is_peripheral source then Bsf intcon PEIE else set_bit (enable_of source)
 
 -- Boot: the state's first value, the setup, the enables, and GIE last.
 abbrev pub boot_code : Counter → List Instr
 boot_code c =
-    Movlw c.init ∷ Movwf state_byte ∷ (setup_in_bank_0 c.setup ++ (within_bank_1 (bank_1_code c) ++ intcon_enable c.source ∷ Bsf intcon 7 ∷ []))
+    Movlw c.init ∷ Movwf state_byte ∷ (setup_in_bank_0 c.setup ++ (within_bank_1 (bank_1_code c) ++ intcon_enable c.source ∷ Bsf intcon GIE ∷ []))
 
 -- The handler, from 0004h on: the flag is cleared, the state grows, the port shows it. It stores the state at its
 -- open address and writes the port at its commit address.

@@ -1,7 +1,7 @@
 -- A number that each step lowers by one.
 use Rattle.std.specs.Prelude.{ℕ, zero, suc, ◌+◌, ◌-◌, ◌≤◌, ◌<◌, ◌⊎◌}
 use Rattle.std.proofs.Common.{◌≡◌, ap, inl, inr, arith}
-use Rattle.firmware_promises.proofs.ReadyLaws.{before_or_from}
+use Rattle.std.proofs.lemmas.Bool.{cases_lt}
 
 -- Where each step does until it is 0, it is 0 after as many steps as it says.
 pub falls_to_zero : (rank : ℕ → ℕ) (k d : ℕ) → ((j : ℕ) → k ≤ j → 0 < rank j → rank j ≡ suc (rank (suc j))) → rank k ≡ d → (j : ℕ) × (k ≤ j) × (j ≤ k + d) × (rank j ≡ 0)
@@ -13,7 +13,7 @@ falls_to_zero rank k (suc d) falls is_it =
 -- Where each step lowers it by one at least, and leaves it at 0 once it is there, it is as much less as there were steps.
 pub falls_for_good : (rank : ℕ → ℕ) (k n : ℕ) → k ≤ n → ((j : ℕ) → k ≤ j → j < n → rank (suc j) ≤ rank j - 1) → rank n ≤ rank k - (n - k)
 falls_for_good rank k zero h falls = let same : zero ≡ k = omega arith in omega (arith, ap rank same)
-falls_for_good rank k (suc n) h falls = by (before_or_from n k) (λ from. falls_for_good rank k n from (λ j at_least below. falls j at_least (omega arith)))
+falls_for_good rank k (suc n) h falls = by (cases_lt n k) (λ from. falls_for_good rank k n from (λ j at_least below. falls j at_least (omega arith)))
   where
     by : (n < k) ⊎ (k ≤ n) → (k ≤ n → rank n ≤ rank k - (n - k)) → rank (suc n) ≤ rank k - (suc n - k)
     by (inl before) rest = let same : suc n ≡ k = omega arith in omega (arith, ap rank same)
