@@ -1,10 +1,10 @@
 pub mod CauseFacts
-pub mod DigitFacts
 pub mod DraftFacts
 pub mod Examples
-pub mod FieldFacts
 pub mod ListFacts
 pub mod NameFacts
+pub mod PinFacts
+pub mod PortFacts
 pub mod ReadFacts
 pub mod RunFacts
 pub mod SendFacts

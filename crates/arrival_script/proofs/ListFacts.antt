@@ -7,9 +7,11 @@ use Rattle.std.proofs.lemmas.Bool.{ltb-true, cases_lt}
 use Rattle.std.proofs.lemmas.List.{append-nil, length-map, get_or_append_left}
 use Rattle.std.proofs.Math.Seq.{get_or-append_seam}
 use Rattle.std.proofs.lemmas.List.Elements.{filter-append}
-use Rattle.std.proofs.lemmas.List.Folds.{find-append}
+use Rattle.std.proofs.Math.Bool.{or-false}
+use Rattle.std.proofs.lemmas.List.Folds.{find-append, list_any-append}
 use Rattle.std.proofs.lemmas.Option.{slice_get-map, slice_get-get_or}
 use Rattle.std.proofs.Math.Numerals.{one-add}
+use Rattle.arrival_script.specs.Scripts.{has_pair}
 
 or_none : {X : Type 0} (o : Option X) → option_or o None ≡ o
 or_none None = refl
@@ -44,23 +46,43 @@ find-filter p q (x ∷ xs) = go (p x) (find-filter p q xs)
     go true e = ap (λ o. cond (q x) (Some x) o) e
     go false e = e
 
-pub prefix-map : {X Y : Type 0} (p : Y → Bool) (f : X → Y) (xs : List X) → prefix_len p (map f xs) ≡ prefix_len (λ x. p (f x)) xs
-prefix-map p f [] = refl
-prefix-map p f (x ∷ xs) = ap (λ n. cond (p (f x)) (1 + n) 0) (prefix-map p f xs)
+pub find-map : {X Y : Type 0} (p : Y → Bool) (f : X → Y) (xs : List X) → find p (map f xs) ≡ option_map f (find (λ x. p (f x)) xs)
+find-map p f [] = refl
+find-map p f (x ∷ xs) = go (p (f x)) (find-map p f xs)
+  where
+    go : (b : Bool) → find p (map f xs) ≡ option_map f (find (λ y. p (f y)) xs) → cond b (Some (f x)) (find p (map f xs)) ≡ option_map f (cond b (Some x) (find (λ y. p (f y)) xs))
+    go true e = refl
+    go false e = e
+
+pub any-map : {X Y : Type 0} (p : Y → Bool) (f : X → Y) (xs : List X) → list_any p (map f xs) ≡ list_any (λ x. p (f x)) xs
+any-map p f [] = refl
+any-map p f (x ∷ xs) = ap (λ b. p (f x) || b) (any-map p f xs)
 
 pub map-map : {X Y Z : Type 0} (g : Y → Z) (f : X → Y) (xs : List X) → map g (map f xs) ≡ map (λ x. g (f x)) xs
 map-map g f [] = refl
 map-map g f (x ∷ xs) = ap (λ ys. g (f x) ∷ ys) (map-map g f xs)
 
--- The first element that doesn't pass.
-pub get-prefix : {X : Type 0} (p : X → Bool) (xs : List X) → slice_get xs (prefix_len p xs) ≡ find (λ x. not (p x)) xs
-get-prefix p [] = refl
-get-prefix p (x ∷ xs) = go (p x) (get-prefix p xs)
-  where
-    go : (b : Bool) → slice_get xs (prefix_len p xs) ≡ find (λ y. not (p y)) xs
-        → slice_get (x ∷ xs) (cond b (1 + prefix_len p xs) 0) ≡ cond (not b) (Some x) (find (λ y. not (p y)) xs)
-    go true e = ap (slice_get (x ∷ xs)) (one-add (prefix_len p xs)) ∙ e
-    go false e = refl
+-- Two elements are alike, with one more element.
+regroup : (a b c d : Bool) → ((a || (b || false)) || (c || d)) ≡ ((a || c) || (b || d))
+regroup true b c d = refl
+regroup false true true d = refl
+regroup false true false d = refl
+regroup false false c d = refl
+
+pub has_pair-push : {X : Type 0} (alike : X → X → Bool) → ((x y : X) → alike x y ≡ alike y x) → (xs : List X) (y : X) → has_pair alike (xs ++ y ∷ []) ≡ (has_pair alike xs || list_any (alike y) xs)
+has_pair-push alike same [] y = refl
+has_pair-push alike same (x ∷ xs) y =
+    ap (λ b. b || has_pair alike (xs ++ y ∷ [])) (list_any-append (alike x) xs (y ∷ []))
+    ∙ ap (λ b. (list_any (alike x) xs || (alike x y || false)) || b) (has_pair-push alike same xs y)
+    ∙ regroup (list_any (alike x) xs) (alike x y) (has_pair alike xs) (list_any (alike y) xs)
+    ∙ ap (λ b. (list_any (alike x) xs || has_pair alike xs) || (b || list_any (alike y) xs)) (same x y)
+
+-- The last element, where there is one more.
+pub last-push : {X : Type 0} (xs : List X) (x : X) → slice_get (xs ++ x ∷ []) (length (xs ++ x ∷ []) - 1) ≡ Some x
+last-push xs x =
+    let total : length (xs ++ x ∷ []) - 1 ≡ length xs = let e = length-append xs (x ∷ []) in omega arith in
+    let inside : length xs < length (xs ++ x ∷ []) = let e = length-append xs (x ∷ []) in omega arith in
+    ap (slice_get (xs ++ x ∷ [])) total ∙ slice_get-get_or (xs ++ x ∷ []) (length xs) x inside ∙ ap (λ y. Some y) (get_or-append_seam xs x [] x)
 
 -- The last element, if there is one, is below n by what f tells of it.
 abbrev pub last_below : {X : Type 0} → (X → ℕ) → List X → ℕ → Bool

@@ -16,6 +16,7 @@ use Rattle.pic_regs.proofs.ArrivalLaws.{set_of-number_of}
 use Rattle.arrival_script.specs.declared.scripts.Cause.TheVariants.{UnknownSource, SourceTwice}
 use Rattle.arrival_script.specs.Scripts.{is_source, has_twice}
 use Rattle.arrival_script.specs.Entries.{names_cause, SetOf}
+use Rattle.arrival_script.proofs.ListFacts.{has_pair-push}
 use Rattle.arrival_script.proofs.SourceFacts.{with_source, source-named, number_of-below, set_of-some}
 
 -- The sources that names name.
@@ -38,20 +39,6 @@ bytes_eq-sym : (xs ys : List ℕ) → bytes_eq xs ys ≡ bytes_eq ys xs
 bytes_eq-sym xs ys =
     let there = bytes_eq-Decides xs ys in let back = bytes_eq-Decides ys xs in
     one_answer (bytes_eq xs ys) (bytes_eq ys xs) there ((λ e. sym (back.0 e)), λ e. back.1 (sym e))
-
-regroup : (a b c d : Bool) → ((a || (b || false)) || (c || d)) ≡ ((a || c) || (b || d))
-regroup true b c d = refl
-regroup false true true d = refl
-regroup false true false d = refl
-regroup false false c d = refl
-
-has_twice-push : (seen : List (List ℕ)) (name : List ℕ) → has_twice (seen ++ name ∷ []) ≡ (has_twice seen || list_any (bytes_eq name) seen)
-has_twice-push [] name = refl
-has_twice-push (x ∷ xs) name =
-    ap (λ b. b || has_twice (xs ++ name ∷ [])) (list_any-append (bytes_eq x) xs (name ∷ []))
-    ∙ ap (λ b. (list_any (bytes_eq x) xs || (bytes_eq x name || false)) || b) (has_twice-push xs name)
-    ∙ regroup (list_any (bytes_eq x) xs) (bytes_eq x name) (has_twice xs) (list_any (bytes_eq name) xs)
-    ∙ ap (λ b. (list_any (bytes_eq x) xs || has_twice xs) || (b || list_any (bytes_eq name) xs)) (bytes_eq-sym x name)
 
 named_by-push : (seen : List (List ℕ)) (set : ℕ) (source : Source) → set ≡ number_of (named_by seen)
     → with_source source (set_of set) ≡ named_by (seen ++ source_name source ∷ [])
@@ -78,7 +65,7 @@ names-more all rest set twice name more source so e n =
       split = so.split ∙ ap (λ r. so.seen ++ r) spelled ∙ sym (append_assoc so.seen (name_of ∷ []) more);
       sources = list_all-append is_source so.seen (name_of ∷ []) ∙ and_from (list_all is_source so.seen) (list_all is_source (name_of ∷ [])) so.sources (and_from (is_source name_of) true (source-named name_of source refl) refl);
       named = ap number_of (named_by-push so.seen set source so.named);
-      alike = has_twice-push so.seen name_of ∙ ap (λ b. b || list_any (bytes_eq name_of) so.seen) so.alike
+      alike = has_pair-push bytes_eq bytes_eq-sym so.seen name_of ∙ ap (λ b. b || list_any (bytes_eq name_of) so.seen) so.alike
           ∙ ap (λ b. twice || b) (sym (ap (λ n. set_of n source) so.named ∙ set_of-number_of (named_by so.seen) source));
       some = λ h. has_some source (set_of set);
     }

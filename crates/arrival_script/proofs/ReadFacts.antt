@@ -7,7 +7,8 @@ use Rattle.arrival_script.specs.declared.scripts.Cause.{Cause}
 use Rattle.arrival_script.specs.declared.scripts.ScriptFault.{ScriptFault}
 use Rattle.arrival_script.specs.declared.scripts.ScriptFault.TheVariants as fault
 use Rattle.arrival_script.specs.declared.drafts.Draft.{Draft}
-use Rattle.arrival_script.specs.Scripts.{Line, Fault, States, FirstFault, Reads, fields_of, is_told, told_from, told_lines, line_cause, fault_among, fault_at_end, first_fault}
+use Rattle.text_parts.specs.Fields.{fields_of}
+use Rattle.arrival_script.specs.Scripts.{Line, Fault, States, FirstFault, Reads, is_told, told_from, told_lines, line_cause, fault_among, fault_at_end, first_fault}
 use Rattle.arrival_script.specs.Drafts.{IsDraftOf, Adds, Takes, Ends}
 
 -- What is known of a text where this rest is left, behind this many lines: the lines before are those of the draft, and no cause

@@ -1,5 +1,5 @@
 -- Text that is held back and sent piece by piece, and the text that is due.
-use Rattle.std.proofs.Common.{◌≡◌, ℕ, zero, suc, ◌+◌, ◌-◌, ◌<◌, Bool, true, false, List, [], ◌++◌, length, take, drop, Option, Some, None, Result, Ok, Err, refl, sym, ap, subst, ◌∙◌, inl, inr, add-one, arith, below_more}
+use Rattle.std.proofs.Common.{◌≡◌, ℕ, zero, suc, ◌+◌, ◌-◌, ◌<◌, Bool, true, false, List, [], ◌++◌, length, take, drop, Option, Some, None, Result, Ok, Err, IsErrAnd, refl, sym, ap, subst, ◌∙◌, inl, inr, add-one, arith, below_more}
 use Rattle.std.proofs.Math.Seq.{take-append_seam}
 use Rattle.std.proofs.lemmas.List.{append-nil, append_assoc, take-append-drop}
 use Rattle.edge_io.specs.Sinks.{Appends, AppendsPrefix}
@@ -7,11 +7,12 @@ use Rattle.pic_machine.specs.Run.{Log}
 use Rattle.pic_machine.specs.declared.steps.Did.TheVariants.{Stopped}
 use Rattle.pic_machine.specs.declared.steps.Why.{Why}
 use Rattle.pic_machine.specs.Dids.{is_stop}
+use Rattle.pic_machine.specs.Boundary.{Step}
 use Rattle.map_file.specs.declared.maps.Map.{Map}
 use Rattle.arrival_script.specs.declared.traces.TraceFault.{TraceFault}
 use Rattle.arrival_script.specs.declared.traces.TraceFault.TheVariants as fault
-use Rattle.arrival_script.specs.Trace.{step_lines, lines_of, end_line, trace_text, GoesOn, IsDue, Traces}
-use Rattle.arrival_script.specs.Sends.{Sends, SendsFront, Adds, Flushes}
+use Rattle.arrival_script.specs.Trace.{step_lines, lines_of, end_line, trace_text, GoesOn, StopsFirst, IsDue, Traces}
+use Rattle.arrival_script.specs.Sends.{Sends, SendsFront, Tells, Flushes}
 
 pub appends-none : (o : Option (List ℕ)) → Appends o o []
 appends-none None = tt
@@ -44,12 +45,6 @@ front-none o held added = record { sent = []; rest = held ++ added; appended = a
 
 pub front-put : (o new : Option (List ℕ)) (held all added : List ℕ) → all ≡ held ++ added → AppendsPrefix o new all → SendsFront o held new added
 front-put o new held all added e f = record { sent = take f.0 all; rest = drop f.0 all; appended = f.1; split = sym e ∙ sym (take-append-drop f.0 all) }
-
-pub adds-flush : (o new : Option (List ℕ)) (held all kept added : List ℕ) (answer : Result (Unit {0}) TraceFault) → all ≡ held ++ added → Flushes o all new kept answer → Adds o held new kept added answer
-adds-flush o new held all kept added (Ok done) e f = sends-all o new held all kept added e f.0 f.1
-adds-flush o new held all kept added (Err (fault.Stopped step address why)) e f = f
-adds-flush o new held all kept added (Err fault.Failed) e f = front-put o new held all added e f
-adds-flush o new held all kept added (Err fault.Memory) e f = front-put o new held all added e f
 
 -- One after the other.
 pub sends-then : (a b c : Option (List ℕ)) (held kept last x y : List ℕ) → Sends a held b kept x → Sends b kept c last y → Sends a held c last (x ++ y)
@@ -120,37 +115,52 @@ traces-front m log n old new x (fault.Stopped step address why) due front none =
 traces-front m log n old new x fault.Failed due front none = (x ++ due.more, due.due, front-longer old new x due.more (x ++ due.more) front refl)
 traces-front m log n old new x fault.Memory due front none = (x ++ due.more, due.due, front-longer old new x due.more (x ++ due.more) front refl)
 
--- A step whose lines couldn't be added.
-pub step-fails : (m : Map) (log : Log) (n k : ℕ) (old mid new : Option (List ℕ)) (kept last : List ℕ) (f : TraceFault) → k < n → GoesOn log k → Sends old [] mid kept (lines_of m log k)
-    → Adds mid kept new last (step_lines m k (log k)) (Err f) → Traces m log n old new (Err f)
-step-fails m log n k old mid new kept last f inside goes sends adds = go f adds
+-- A step after which the text isn't whole.
+pub step-fails : (m : Map) (log : Log) (n k : ℕ) (old mid new : Option (List ℕ)) (held last : List ℕ) (f : TraceFault) → k < n → GoesOn log k → Sends old [] mid held (lines_of m log k)
+    → Tells k (log k) mid held new last (step_lines m k (log k)) (Err f) → Traces m log n old new (Err f)
+step-fails m log n k old mid new held last f inside goes sends tells = go f tells
   where
-    front : SendsFront mid kept new (step_lines m k (log k)) → SendsFront old [] new (lines_of m log (k + 1))
-    front added = subst (SendsFront old [] new) (sym (lines-more m log k)) (sends-front old mid new [] kept (lines_of m log k) (step_lines m k (log k)) sends added)
+    added : List ℕ
+    added = step_lines m k (log k)
 
-    go : (f : TraceFault) → Adds mid kept new last (step_lines m k (log k)) (Err f) → Traces m log n old new (Err f)
-    go (fault.Stopped step address why) a = absurd a
-    go fault.Failed a = traces-front m log n old new (lines_of m log (k + 1)) fault.Failed (due-behind m log k n inside goes) (front a) (λ step address why e. cc)
-    go fault.Memory a = traces-front m log n old new (lines_of m log (k + 1)) fault.Memory (due-behind m log k n inside goes) (front a) (λ step address why e. cc)
+    front : SendsFront mid held new added → SendsFront old [] new (lines_of m log (k + 1))
+    front sent = subst (SendsFront old [] new) (sym (lines-more m log k)) (sends-front old mid new [] held (lines_of m log k) added sends sent)
+
+    whole : Appends mid new (held ++ added) → Appends old new (lines_of m log (k + 1))
+    whole sent = subst (Appends old new) (sym (lines-more m log k))
+        (whole-sent old mid new (held ++ added) (lines_of m log k ++ added) (sends-then old mid mid [] held (held ++ added) (lines_of m log k) added sends (sends-kept mid held (held ++ added) added refl)) sent)
+
+    go : (f : TraceFault) → Tells k (log k) mid held new last added (Err f) → Traces m log n old new (Err f)
+    go (fault.Stopped step address why) told =
+        let at : StopsFirst log n k × ((log k).did ≡ Stopped address why) × Appends old new (lines_of m log (k + 1)) =
+        (record { in_time = inside; before = goes; stopped = ap is_stop told.1 }, told.1, whole told.2) in
+        subst (λ i. StopsFirst log n i × ((log i).did ≡ Stopped address why) × Appends old new (lines_of m log (i + 1))) (sym told.0) at
+    go fault.Failed told = traces-front m log n old new (lines_of m log (k + 1)) fault.Failed (due-behind m log k n inside goes) (front told) (λ step address why e. cc)
+    go fault.Memory told = traces-front m log n old new (lines_of m log (k + 1)) fault.Memory (due-behind m log k n inside goes) (front told) (λ step address why e. cc)
+
+-- The lines of a step, by the parts of its telling: none was added; they are held back; or a flush came behind them.
+pub tells-memory : (k : ℕ) (step : Step) (o : Option (List ℕ)) (held kept added : List ℕ) (answer : Result (Unit {0}) TraceFault) → IsErrAnd answer (λ f. f ≡ fault.Memory) → Tells k step o held o kept added answer
+tells-memory k step o held kept added (Ok done) is = absurd is
+tells-memory k step o held kept added (Err f) is = subst (λ e. Tells k step o held o kept added (Err e)) (sym is) (front-none o held added)
+
+flush-fails : (k : ℕ) (step : Step) (o new : Option (List ℕ)) (held all kept added : List ℕ) (f : TraceFault) → all ≡ held ++ added → Flushes o all new kept (Err f) → Tells k step o held new kept added (Err f)
+flush-fails k step o new held all kept added (fault.Stopped n address why) e flush = absurd flush
+flush-fails k step o new held all kept added fault.Failed e flush = front-put o new held all added e flush
+flush-fails k step o new held all kept added fault.Memory e flush = front-put o new held all added e flush
+
+pub tells-unflushed : (k : ℕ) (step : Step) (o new : Option (List ℕ)) (held all kept added : List ℕ) (f : TraceFault) (answer : Result (Unit {0}) TraceFault) → IsErrAnd answer (λ e. e ≡ f)
+    → all ≡ held ++ added → Flushes o all new kept (Err f) → Tells k step o held new kept added answer
+tells-unflushed k step o new held all kept added f (Ok done) is e flush = absurd is
+tells-unflushed k step o new held all kept added f (Err found) is e flush = subst (λ x. Tells k step o held new kept added (Err x)) (sym is) (flush-fails k step o new held all kept added f e flush)
+
+pub tells-flush : (k : ℕ) (step : Step) (o new : Option (List ℕ)) (held all kept added : List ℕ) (answer : Result (Unit {0}) TraceFault) → is_stop step.did ≡ false → all ≡ held ++ added
+    → Flushes o all new kept answer → Tells k step o held new kept added answer
+tells-flush k step o new held all kept added (Ok done) goes e flush = (goes, sends-all o new held all kept added e flush.0 flush.1)
+tells-flush k step o new held all kept added (Err f) goes e flush = flush-fails k step o new held all kept added f e flush
 
 flush-front : (old mid new : Option (List ℕ)) (kept x : List ℕ) → Sends old [] mid kept x → AppendsPrefix mid new kept → SendsFront old [] new x
 flush-front old mid new kept x sends front =
     subst (SendsFront old [] new) (append-nil x) (sends-front old mid new [] kept x [] sends (front-put mid new kept kept [] (sym (append-nil kept)) front))
-
--- A stop.
-pub stop-fails : (m : Map) (log : Log) (n k : ℕ) (old mid new : Option (List ℕ)) (kept last : List ℕ) (f : TraceFault) → k < n → GoesOn log k → is_stop (log k).did ≡ true
-    → Sends old [] mid kept (lines_of m log (k + 1)) → Flushes mid kept new last (Err f) → Traces m log n old new (Err f)
-stop-fails m log n k old mid new kept last f inside goes stop sends flush = go f flush
-  where
-    go : (f : TraceFault) → Flushes mid kept new last (Err f) → Traces m log n old new (Err f)
-    go (fault.Stopped step address why) a = absurd a
-    go fault.Failed a = traces-front m log n old new (lines_of m log (k + 1)) fault.Failed (due-behind m log k n inside goes) (flush-front old mid new kept (lines_of m log (k + 1)) sends a) (λ step address why e. cc)
-    go fault.Memory a = traces-front m log n old new (lines_of m log (k + 1)) fault.Memory (due-behind m log k n inside goes) (flush-front old mid new kept (lines_of m log (k + 1)) sends a) (λ step address why e. cc)
-
-pub stop-told : (m : Map) (log : Log) (n k address : ℕ) (why : Why) (old mid new : Option (List ℕ)) (kept : List ℕ) → k < n → GoesOn log k → (log k).did ≡ Stopped address why
-    → Sends old [] mid kept (lines_of m log (k + 1)) → Appends mid new kept → Traces m log n old new (Err (fault.Stopped k address why))
-stop-told m log n k address why old mid new kept inside goes did sends flush =
-    (record { in_time = inside; before = goes; stopped = ap is_stop did }, did, whole-sent old mid new kept (lines_of m log (k + 1)) sends flush)
 
 -- The end.
 pub end-fails : (m : Map) (log : Log) (n : ℕ) (old mid : Option (List ℕ)) (kept : List ℕ) → GoesOn log n → Sends old [] mid kept (lines_of m log n) → Traces m log n old mid (Err fault.Memory)

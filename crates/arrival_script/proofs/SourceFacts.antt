@@ -33,8 +33,11 @@ name_ascii Ee = refl
 name_ascii Bcl = refl
 name_ascii Ccp2 = refl
 
+pub text_utf8 : (bs : List ℕ) → list_all (λ b. nat_lt b 128) bs ≡ true → IsUtf8 bs
+text_utf8 bs h = IsUtf8-from_ascii bs (ascii bs h)
+
 name_utf8 : (source : Source) → IsUtf8 (source_name source)
-name_utf8 source = IsUtf8-from_ascii (source_name source) (ascii (source_name source) (name_ascii source))
+name_utf8 source = text_utf8 (source_name source) (name_ascii source)
 
 -- A source's name is one, and what is no source's name isn't.
 pub is_source-name : (source : Source) → is_source (source_name source) ≡ true

@@ -5,6 +5,8 @@ use Rattle.std.specs.List.{flat_map, list_any}
 use Rattle.std.proofs.Math.Path.{fun_ext}
 use Rattle.std.proofs.lemmas.Bool.{and_parts, eqb-true}
 use Rattle.std.proofs.lemmas.List.{append_assoc}
+use Rattle.text_parts.specs.Digits.{hex2}
+use Rattle.pic_regs.specs.Bytes.{num}
 use Rattle.pic_regs.specs.Registers.{Registers}
 use Rattle.pic_regs.specs.Arrivals.{Sources, no_source, set_of, number_of}
 use Rattle.pic_regs.proofs.ArrivalLaws.{set_of-number_of}
@@ -12,30 +14,31 @@ use Rattle.pic_machine.specs.declared.steps.Did.{Did}
 use Rattle.pic_machine.specs.declared.steps.Did.TheVariants.{Took, Ran, Stopped}
 use Rattle.pic_machine.specs.declared.steps.PortWrite.{PortWrite}
 use Rattle.pic_machine.specs.declared.steps.Stepped.{Stepped}
+use Rattle.pic_machine.specs.Chip.{Chip}
 use Rattle.pic_machine.specs.Boundary.{Step, stepped}
 use Rattle.pic_machine.specs.Dids.{is_stop}
 use Rattle.map_file.specs.declared.maps.MapEvent.{MapEvent}
 use Rattle.map_file.specs.declared.maps.Map.{Map}
 use Rattle.map_file.specs.MapText.{line}
 use Rattle.arrival_script.specs.Scripts.{sources}
-use Rattle.arrival_script.specs.Trace.{arrival_line, arrival_lines, take_line, open_line, port_line, commit_line, step_line, step_lines, state_field, state_fields}
-use Rattle.arrival_script.specs.TraceParts.{spaced, names_address, is_silent, is_quiet}
+use Rattle.arrival_script.specs.Trace.{arrival_line, arrival_lines, take_line, sample_line, open_line, port_line, commit_line, step_line, step_lines, state_field, state_fields}
+use Rattle.arrival_script.specs.TraceParts.{spaced, names_address, samples_address, is_named, is_silent, is_quiet}
 use Rattle.arrival_script.proofs.SourceFacts.{set_of-zero}
 
 -- A set whose number is 0 is empty.
 no-source : (set : Sources) → number_of set ≡ 0 → set ≡ no_source
 no-source set e = fun_ext (λ source. sym (set_of-number_of set source) ∙ ap (λ n. set_of n source) e ∙ set_of-zero source)
 
--- Lines of events that a step doesn't name.
-no-events : (address : ℕ) (f : MapEvent → Bool) (text : MapEvent → List ℕ) (events : List MapEvent)
-    → ((e : MapEvent) → names_address address e ≡ false → f e ≡ false) → list_any (names_address address) events ≡ false
-    → flat_map (λ e. cond (f e) (text e) []) events ≡ []
-no-events address f text [] none h = refl
-no-events address f text (e ∷ more) none h = go (names_address address e) refl (no-events address f text more none) h
+-- Lines of events or samples that a step doesn't name.
+none-named : {X : Type 0} (named : X → Bool) (f : X → Bool) (text : X → List ℕ) (xs : List X)
+    → ((x : X) → named x ≡ false → f x ≡ false) → list_any named xs ≡ false → flat_map (λ x. cond (f x) (text x) []) xs ≡ []
+none-named named f text [] none h = refl
+none-named named f text (x ∷ more) none h = go (named x) refl (none-named named f text more none) h
   where
-    go : (b : Bool) → names_address address e ≡ b → (list_any (names_address address) more ≡ false → flat_map (λ e. cond (f e) (text e) []) more ≡ []) → (b || list_any (names_address address) more) ≡ false → (cond (f e) (text e) [] ++ flat_map (λ e. cond (f e) (text e) []) more) ≡ []
+    go : (b : Bool) → named x ≡ b → (list_any named more ≡ false → flat_map (λ y. cond (f y) (text y) []) more ≡ []) → (b || list_any named more) ≡ false
+        → (cond (f x) (text x) [] ++ flat_map (λ y. cond (f y) (text y) []) more) ≡ []
     go true n rest k = cc
-    go false n rest k = ap (λ b. cond b (text e) [] ++ flat_map (λ e. cond (f e) (text e) []) more) (none e n) ∙ rest k
+    go false n rest k = ap (λ b. cond b (text x) [] ++ flat_map (λ y. cond (f y) (text y) []) more) (none x n) ∙ rest k
 
 or_first : (a b : Bool) → (a || b) ≡ false → a ≡ false
 or_first true b h = h
@@ -45,21 +48,38 @@ or_second : (a b : Bool) → (a || b) ≡ false → b ≡ false
 or_second true b h = cc
 or_second false b h = h
 
+-- The lines of a step, by its parts.
+abbrev lines_by : Map → ℕ → Sources → Sources → Did → ℕ → Option PortWrite → Registers → List ℕ
+lines_by m k latched merged did w port r =
+    arrival_lines k latched merged
+    ++ (take_line k did
+    ++ (flat_map (sample_line k did w) m.samples
+    ++ (flat_map (open_line k did) m.events
+    ++ (port_line k port
+    ++ flat_map (commit_line m k did r) m.events))))
+
+quiet-lines : (m : Map) (k address word w : ℕ) (r : Registers) → is_named m address ≡ false → lines_by m k no_source no_source (Ran address word) w None r ≡ []
+quiet-lines m k address word w r named =
+    let events = or_first (list_any (names_address address) m.events) (list_any (samples_address address) m.samples) named in
+    let samples : flat_map (sample_line k (Ran address word) w) m.samples ≡ [] =
+    none-named (samples_address address) (λ s. address == s.at) (λ s. step_line k (codes "sample" ∷ s.event ∷ s.input ∷ hex2 w ∷ [])) m.samples (λ s h. h)
+    (or_second (list_any (names_address address) m.events) (list_any (samples_address address) m.samples) named) in
+    let opens : flat_map (open_line k (Ran address word)) m.events ≡ [] =
+    none-named (names_address address) (λ e. address == e.«open») (λ e. step_line k (codes "open" ∷ e.name ∷ [])) m.events (λ e h. or_first (address == e.«open») (address == e.commit) h) events in
+    let commits : flat_map (commit_line m k (Ran address word) r) m.events ≡ [] =
+    none-named (names_address address) (λ e. address == e.commit) (λ e. step_line k (codes "commit" ∷ e.name ∷ state_fields m r)) m.events (λ e h. or_second (address == e.«open») (address == e.commit) h) events in
+    ap (λ l. l ++ (flat_map (open_line k (Ran address word)) m.events ++ flat_map (commit_line m k (Ran address word) r) m.events)) samples
+    ∙ ap (λ l. l ++ flat_map (commit_line m k (Ran address word) r) m.events) opens ∙ commits
+
 pub quiet-step : (m : Map) (k : ℕ) (step : Step) (address word : ℕ) → number_of step.latched ≡ 0 → number_of step.merged ≡ 0 → step.did ≡ Ran address word → step.port ≡ None
-    → list_any (names_address address) m.events ≡ false → step_lines m k step ≡ []
+    → is_named m address ≡ false → step_lines m k step ≡ []
 quiet-step m k step address word latched merged did port named =
-    let opens : flat_map (open_line k step.did) m.events ≡ [] =
-    ap (λ d. flat_map (open_line k d) m.events) did
-    ∙ no-events address (λ e. address == e.«open») (λ e. step_line k (codes "open" ∷ e.name ∷ [])) m.events (λ e h. or_first (address == e.«open») (address == e.commit) h) named in
-    let commits : flat_map (commit_line m k step.did step.after.regs) m.events ≡ [] =
-    ap (λ d. flat_map (commit_line m k d step.after.regs) m.events) did
-    ∙ no-events address (λ e. address == e.commit) (λ e. step_line k (codes "commit" ∷ e.name ∷ state_fields m step.after.regs)) m.events (λ e h. or_second (address == e.«open») (address == e.commit) h) named in
-    ap (λ set. arrival_lines k set step.merged ++ (take_line k step.did ++ (flat_map (open_line k step.did) m.events ++ (port_line k step.port ++ flat_map (commit_line m k step.did step.after.regs) m.events)))) (no-source step.latched latched)
-    ∙ ap (λ set. arrival_lines k no_source set ++ (take_line k step.did ++ (flat_map (open_line k step.did) m.events ++ (port_line k step.port ++ flat_map (commit_line m k step.did step.after.regs) m.events)))) (no-source step.merged merged)
-    ∙ ap (λ d. take_line k d ++ (flat_map (open_line k step.did) m.events ++ (port_line k step.port ++ flat_map (commit_line m k step.did step.after.regs) m.events))) did
-    ∙ ap (λ opened. opened ++ (port_line k step.port ++ flat_map (commit_line m k step.did step.after.regs) m.events)) opens
-    ∙ ap (λ p. port_line k p ++ flat_map (commit_line m k step.did step.after.regs) m.events) port
-    ∙ commits
+    let w = num step.after.w in let r = step.after.regs in
+    ap (λ set. lines_by m k set step.merged step.did w step.port r) (no-source step.latched latched)
+    ∙ ap (λ set. lines_by m k no_source set step.did w step.port r) (no-source step.merged merged)
+    ∙ ap (λ d. lines_by m k no_source no_source d w step.port r) did
+    ∙ ap (λ p. lines_by m k no_source no_source (Ran address word) w p r) port
+    ∙ quiet-lines m k address word w r named
 
 -- Fields behind a first one, each behind a space.
 pub line-spaced : (first : List ℕ) (fields : List (List ℕ)) → line (first ∷ fields) ≡ first ++ (flat_map spaced fields ++ codes "\n")
@@ -71,10 +91,10 @@ flat_map-map f g [] = refl
 flat_map-map f g (x ∷ xs) = ap (λ rest. f (g x) ++ rest) (flat_map-map f g xs)
 
 -- A report that tells of no line, and the lines that the writers add.
-quiet-report : (m : Map) (silent : Bool) (did : Did) → is_quiet m silent did ≡ true → (address : ℕ) × (word : ℕ) × (did ≡ Ran address word) × (silent ≡ true) × (list_any (names_address address) m.events ≡ false)
+quiet-report : (m : Map) (silent : Bool) (did : Did) → is_quiet m silent did ≡ true → (address : ℕ) × (word : ℕ) × (did ≡ Ran address word) × (silent ≡ true) × (is_named m address ≡ false)
 quiet-report m silent Took h = cc
 quiet-report m silent (Stopped address why) h = cc
-quiet-report m true (Ran address word) h = (address, word, refl, refl, not_true (list_any (names_address address) m.events) h)
+quiet-report m true (Ran address word) h = (address, word, refl, refl, not_true (is_named m address) h)
   where
     not_true : (b : Bool) → not b ≡ true → b ≡ false
     not_true true e = cc
@@ -107,25 +127,21 @@ set-told : (set : Sources) → set_of (number_of set) ≡ set
 set-told set = fun_ext (set_of-number_of set)
 
 -- What is added piece by piece.
-pub step-written : (m : Map) (k : ℕ) (step : Step) (report : Stepped) (r : Registers) (t0 t1 t2 t3 t4 t5 : List ℕ) → report ≡ stepped step → r ≡ step.after.regs
+pub step-written : (m : Map) (k : ℕ) (step : Step) (report : Stepped) (chip : Chip) (w : ℕ) (t0 t1 t2 t3 t4 t5 t6 : List ℕ) → report ≡ stepped step → chip ≡ step.after → w ≡ num chip.w
     → t1 ≡ t0 ++ flat_map (arrival_line k (set_of report.latched) (set_of report.merged)) sources → t2 ≡ t1 ++ take_line k report.did
-    → t3 ≡ t2 ++ flat_map (open_line k report.did) m.events → t4 ≡ t3 ++ port_line k report.port
-    → t5 ≡ t4 ++ flat_map (commit_line m k report.did r) m.events → t5 ≡ t0 ++ step_lines m k step
-step-written m k step report r t0 t1 t2 t3 t4 t5 e s w1 w2 w3 w4 w5 =
-    let a = arrival_lines k (set_of report.latched) (set_of report.merged) in
-    let b = take_line k report.did in
-    let o = flat_map (open_line k report.did) m.events in
-    let p = port_line k report.port in
-    let c = flat_map (commit_line m k report.did r) m.events in
-    let whole : t5 ≡ t0 ++ (a ++ (b ++ (o ++ (p ++ c)))) = five t0 a b o p c t1 t2 t3 t4 t5 w1 w2 w3 w4 w5 in
-    whole
-    ∙ ap (λ told. t0 ++ (arrival_lines k (set_of told.latched) (set_of told.merged) ++ (take_line k told.did ++ (flat_map (open_line k told.did) m.events ++ (port_line k told.port ++ flat_map (commit_line m k told.did r) m.events))))) e
-    ∙ ap (λ after. t0 ++ (arrival_lines k (set_of (number_of step.latched)) (set_of (number_of step.merged)) ++ (take_line k step.did ++ (flat_map (open_line k step.did) m.events ++ (port_line k step.port ++ flat_map (commit_line m k step.did after) m.events))))) s
-    ∙ ap (λ set. t0 ++ (arrival_lines k set (set_of (number_of step.merged)) ++ (take_line k step.did ++ (flat_map (open_line k step.did) m.events ++ (port_line k step.port ++ flat_map (commit_line m k step.did step.after.regs) m.events))))) (set-told step.latched)
-    ∙ ap (λ set. t0 ++ (arrival_lines k step.latched set ++ (take_line k step.did ++ (flat_map (open_line k step.did) m.events ++ (port_line k step.port ++ flat_map (commit_line m k step.did step.after.regs) m.events))))) (set-told step.merged)
+    → t3 ≡ t2 ++ flat_map (sample_line k report.did w) m.samples → t4 ≡ t3 ++ flat_map (open_line k report.did) m.events → t5 ≡ t4 ++ port_line k report.port
+    → t6 ≡ t5 ++ flat_map (commit_line m k report.did chip.regs) m.events → t6 ≡ t0 ++ step_lines m k step
+step-written m k step report chip w t0 t1 t2 t3 t4 t5 t6 e s v w1 w2 w3 w4 w5 w6 =
+    six t0 (arrival_lines k (set_of report.latched) (set_of report.merged)) (take_line k report.did) (flat_map (sample_line k report.did w) m.samples)
+    (flat_map (open_line k report.did) m.events) (port_line k report.port) (flat_map (commit_line m k report.did chip.regs) m.events) t1 t2 t3 t4 t5 t6 w1 w2 w3 w4 w5 w6
+    ∙ ap (λ told. t0 ++ lines_by m k (set_of told.latched) (set_of told.merged) told.did w told.port chip.regs) e
+    ∙ ap (λ n. t0 ++ lines_by m k (set_of (number_of step.latched)) (set_of (number_of step.merged)) step.did n step.port chip.regs) v
+    ∙ ap (λ (c : Chip). t0 ++ lines_by m k (set_of (number_of step.latched)) (set_of (number_of step.merged)) step.did (num c.w) step.port c.regs) s
+    ∙ ap (λ set. t0 ++ lines_by m k set (set_of (number_of step.merged)) step.did (num step.after.w) step.port step.after.regs) (set-told step.latched)
+    ∙ ap (λ set. t0 ++ lines_by m k step.latched set step.did (num step.after.w) step.port step.after.regs) (set-told step.merged)
   where
-    five : (t a b o p c t1 t2 t3 t4 t5 : List ℕ) → t1 ≡ t ++ a → t2 ≡ t1 ++ b → t3 ≡ t2 ++ o → t4 ≡ t3 ++ p → t5 ≡ t4 ++ c → t5 ≡ t ++ (a ++ (b ++ (o ++ (p ++ c))))
-    five t a b o p c t1 t2 t3 t4 t5 w1 w2 w3 w4 w5 = rw (w5, w4, w3, w2, w1) (simp append_assoc)
+    six : (t a b i o p c t1 t2 t3 t4 t5 t6 : List ℕ) → t1 ≡ t ++ a → t2 ≡ t1 ++ b → t3 ≡ t2 ++ i → t4 ≡ t3 ++ o → t5 ≡ t4 ++ p → t6 ≡ t5 ++ c → t6 ≡ t ++ (a ++ (b ++ (i ++ (o ++ (p ++ c)))))
+    six t a b i o p c t1 t2 t3 t4 t5 t6 w1 w2 w3 w4 w5 w6 = rw (w6, w5, w4, w3, w2, w1) (simp append_assoc)
 
 -- A line that is begun and ended with the states.
 states-written : (m : Map) (r : Registers) (last : List ℕ) → line (last ∷ state_fields m r) ≡ last ++ (flat_map (λ s. spaced (state_field r s)) m.states ++ codes "\n")

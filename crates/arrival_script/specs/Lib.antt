@@ -2,6 +2,7 @@ pub mod Drafts
 pub mod Entries
 pub mod Events
 pub mod Model
+pub mod Running
 pub mod Scripts
 pub mod Sends
 pub mod Trace

@@ -1,18 +1,24 @@
-use Rattle.std.specs.Prelude.{◌≡◌, ℕ, ◌<◌, ◌≤◌, ◌+◌, ◌-◌, Bool, true, false, not, ◌&&◌, ◌||◌, ◌==◌, nat_lt, nat_le, if◌then◌else◌, List, [], ◌∷◌, ◌++◌, length, map, filter, drop, get_or, Option, Some, None, Result, Ok, Err, codes, slice_get}
+-- What a script's text states, and its first fault.
+use Rattle.std.specs.Prelude.{◌≡◌, ℕ, ◌<◌, ◌≤◌, ◌+◌, ◌-◌, Bool, true, false, not, ◌&&◌, ◌||◌, ◌==◌, nat_lt, nat_le, if◌then◌else◌, is_some, List, [], ◌∷◌, ◌++◌, length, map, filter, drop, get_or, Option, Some, None, Result, Ok, Err, codes, slice_get}
 use Rattle.std.specs.List.{All, find, list_all, list_any, slice_split}
-use Rattle.std.specs.List.Sorted.{IsStrictlyIncreasing}
+use Rattle.std.specs.List.Sorted.{IsStrictlyIncreasing, IsNonDecreasingBy}
 use Rattle.std.specs.Str.{bytes_eq}
 use Rattle.std.specs.Str.Lines.{lines}
-use Rattle.text_parts.specs.Bytes.{is_between, is_digit, is_hex_digit, begins}
-use Rattle.text_parts.specs.Numbers.{value_after}
+use Rattle.text_parts.specs.Bytes.{is_between, begins}
+use Rattle.text_parts.specs.Fields.{fields_of}
+use Rattle.text_parts.specs.Numbers.{value_after, is_decimal, is_byte}
 use Rattle.pic_isa.specs.declared.sources.Source.{Source}
 use Rattle.pic_isa.specs.declared.sources.Source.TheVariants.{T0, Int, Psp, Ad, Ssp, Ccp1, Tmr2, Tmr1, Ee, Bcl, Ccp2}
 use Rattle.pic_isa.specs.Sources.{source_name}
+use Rattle.pic_isa.specs.Names.{port_at}
 use Rattle.pic_regs.specs.Arrivals.{number_of}
 use Rattle.arrival_script.specs.declared.scripts.Arrival.{Arrival}
+use Rattle.arrival_script.specs.declared.scripts.PinChange.{PinChange}
+use Rattle.arrival_script.specs.declared.scripts.Late.{Late}
+use Rattle.arrival_script.specs.declared.scripts.Late.TheVariants.{Never, Always, Odd}
 use Rattle.arrival_script.specs.declared.scripts.Script.{Script}
 use Rattle.arrival_script.specs.declared.scripts.Cause.{Cause}
-use Rattle.arrival_script.specs.declared.scripts.Cause.TheVariants.{AfterSteps, BadLine, BadNumber, UnknownSource, SourceTwice, NotRising, NoSteps, PastEnd}
+use Rattle.arrival_script.specs.declared.scripts.Cause.TheVariants.{AfterSteps, BadLine, BadNumber, UnknownSource, UnknownPort, SourceTwice, NotRising, PinTwice, NoSteps, PastEnd}
 use Rattle.arrival_script.specs.declared.scripts.ScriptFault.{ScriptFault}
 use Rattle.arrival_script.specs.declared.scripts.ScriptFault.TheVariants as fault
 
@@ -20,10 +26,6 @@ use Rattle.arrival_script.specs.declared.scripts.ScriptFault.TheVariants as faul
 pub record Line : Type 0 where
   pub number : ℕ
   pub fields : List (List ℕ)
-
--- The fields of a line: what stands between spaces and isn't empty.
-abbrev pub fields_of : List ℕ → List (List ℕ)
-fields_of text = filter (λ field. nat_lt 0 (length field)) (slice_split (λ b. b == 32) text)
 
 -- A line is skipped that has no field, or whose first field begins with `#`.
 abbrev pub is_told : List (List ℕ) → Bool
@@ -43,36 +45,52 @@ told_from n (text ∷ texts) =
 abbrev pub told_lines : List ℕ → List Line
 told_lines bytes = told_from 1 (lines bytes)
 
--- The parts of a line: its word, which is the first field, the second field, and the names behind it.
-abbrev pub has_word : List ℕ → Line → Bool
-has_word word line = bytes_eq (get_or line.fields 0 []) word
-
-abbrev pub is_fill : Line → Bool
-is_fill line = has_word (codes "fill") line
-
-abbrev pub is_at : Line → Bool
-is_at line = has_word (codes "at") line
-
-abbrev pub is_steps : Line → Bool
-is_steps line = has_word (codes "steps") line
+-- The parts of a line: its word, which is the first field, and the three fields behind it.
+abbrev pub word : Line → List ℕ
+word line = get_or line.fields 0 []
 
 abbrev pub second : Line → List ℕ
 second line = get_or line.fields 1 []
 
+abbrev pub third : Line → List ℕ
+third line = get_or line.fields 2 []
+
+abbrev pub fourth : Line → List ℕ
+fourth line = get_or line.fields 3 []
+
+abbrev pub is_fill : Line → Bool
+is_fill line = bytes_eq (word line) (codes "fill")
+
+abbrev pub is_late : Line → Bool
+is_late line = bytes_eq (word line) (codes "late")
+
+abbrev pub is_at : Line → Bool
+is_at line = bytes_eq (word line) (codes "at")
+
+abbrev pub is_pin : Line → Bool
+is_pin line = bytes_eq (word line) (codes "pin")
+
+abbrev pub is_steps : Line → Bool
+is_steps line = bytes_eq (word line) (codes "steps")
+
+-- The lines that stand before all others, and those whose second field is a boundary.
+abbrev pub is_opening : Line → Bool
+is_opening line = is_fill line || is_late line
+
+abbrev pub is_timed : Line → Bool
+is_timed line = is_at line || is_pin line
+
+-- The names of an `at` line, which are all fields behind the second.
 abbrev pub names : Line → List (List ℕ)
-names line = drop 2 line.fields
+names line = if is_at line then drop 2 line.fields else []
 
 -- One to eight decimal digits.
 abbrev pub is_number : List ℕ → Bool
-is_number w = is_between 1 8 (length w) && list_all is_digit w
+is_number w = is_decimal w && nat_le (length w) 8
 
--- The number that the second field is, which is an `at` line's boundary.
+-- The number that the second field is.
 abbrev pub value : Line → ℕ
 value line = value_after 10 0 (second line)
-
--- Two hexadecimal digits of either case.
-abbrev pub is_byte : List ℕ → Bool
-is_byte w = length w == 2 && list_all is_hex_digit w
 
 -- The sources, by their number.
 abbrev pub sources : List Source
@@ -82,37 +100,86 @@ sources = T0 ∷ Int ∷ Psp ∷ Ad ∷ Ssp ∷ Ccp1 ∷ Tmr2 ∷ Tmr1 ∷ Ee �
 abbrev pub is_source : List ℕ → Bool
 is_source name = list_any (λ source. bytes_eq (source_name source) name) sources
 
+-- Two elements are alike.
+abbrev pub has_pair : {X : Type 0} → (X → X → Bool) → List X → Bool
+has_pair alike [] = false
+has_pair alike (x ∷ more) = list_any (alike x) more || has_pair alike more
+
 -- Two names are alike.
 abbrev pub has_twice : List (List ℕ) → Bool
-has_twice [] = false
-has_twice (name ∷ more) = list_any (bytes_eq name) more || has_twice more
+has_twice found = has_pair bytes_eq found
 
--- The form of each of the three lines: `fill` and a byte, `steps` and a field, `at` and two fields or more.
+-- A port has this name, and its number.
+abbrev pub is_port : List ℕ → Bool
+is_port name = is_some (port_at name)
+
+abbrev pub port_number : List ℕ → ℕ
+port_number name = elim (port_at name) [ None ↦ 0 | Some number ↦ number ]
+
+-- When requested interrupts are late, by the second field of a `late` line.
+abbrev pub late_named : List ℕ → Option Late
+late_named w =
+    if bytes_eq w (codes "never") then Some Never
+    else if bytes_eq w (codes "always") then Some Always
+    else if bytes_eq w (codes "odd") then Some Odd
+    else None
+
+-- The change that a `pin` line states.
+abbrev pub pin_of : Line → PinChange
+pin_of line = record { at = value line; port = port_number (third line); byte = value_after 16 0 (fourth line) }
+
+-- Two changes are of the same port at the same boundary.
+abbrev pub is_same_pin : PinChange → PinChange → Bool
+is_same_pin a b = a.at == b.at && a.port == b.port
+
+-- The form of each of the five lines: `fill` and a byte, `late` and one of its three words, `at` and two fields or more,
+-- `pin` and two fields and a byte, `steps` and a field.
 abbrev pub has_form : Line → Bool
 has_form line =
     is_fill line && length line.fields == 2 && is_byte (second line)
-    || is_steps line && length line.fields == 2
+    || is_late line && length line.fields == 2 && is_some (late_named (second line))
     || is_at line && nat_le 3 (length line.fields)
+    || is_pin line && length line.fields == 4 && is_byte (fourth line)
+    || is_steps line && length line.fields == 2
 
--- The second field of an `at` or a `steps` line is a number, and that of a `steps` line is from 1 to 10,000,000.
+-- A `fill` line stands behind another line, or a `late` line behind another than a `fill` line.
+abbrev pub is_misplaced : List Line → Line → Bool
+is_misplaced before line = is_fill line && nat_lt 0 (length before) || is_late line && not (list_all is_fill before)
+
+-- The second field of an `at`, a `pin` or a `steps` line is a number, and that of a `steps` line is from 1 to 10,000,000.
 abbrev pub has_number : Line → Bool
-has_number line = is_fill line || is_number (second line) && (is_at line || is_between 1 10000000 (value line))
+has_number line = is_opening line || is_number (second line) && (is_timed line || is_between 1 10000000 (value line))
 
--- An `at` line's boundary is above that of the `at` line before, if there is one: the last among the lines before.
+-- The last line of a kind.
+abbrev pub last_of : (Line → Bool) → List Line → Option Line
+last_of kind lines = let found = filter kind lines in slice_get found (length found - 1)
+
+-- A line's boundary isn't below that of the `at` or `pin` line before, if there is one; and that of an `at` line is above
+-- that of the `at` line before, if there is one.
 abbrev pub rises : List Line → Line → Bool
 rises before line =
-    let earlier = filter is_at before in
-    elim (slice_get earlier (length earlier - 1)) [ None ↦ true | Some last ↦ nat_lt (value last) (value line) ]
+    elim (last_of is_timed before) [ None ↦ true | Some last ↦ nat_le (value last) (value line) ]
+    && (not (is_at line) || elim (last_of is_at before) [ None ↦ true | Some last ↦ nat_lt (value last) (value line) ])
+
+-- The changes that the `pin` lines among these state, in order.
+abbrev pub pins_in : List Line → List PinChange
+pins_in told = map pin_of (filter is_pin told)
+
+-- A line changes the same port at the same boundary as a `pin` line before.
+abbrev pub is_twice : List Line → Line → Bool
+is_twice before line = list_any (is_same_pin (pin_of line)) (pins_in before)
 
 -- The cause that applies to a line behind these lines, all told: the first in this order.
 abbrev pub line_cause : List Line → Line → Option Cause
 line_cause before line =
     if list_any is_steps before then Some AfterSteps
-    else if not (has_form line) || is_fill line && nat_lt 0 (length before) then Some BadLine
+    else if not (has_form line) || is_misplaced before line then Some BadLine
     else if not (has_number line) then Some BadNumber
     else if not (list_all is_source (names line)) then Some UnknownSource
+    else if is_pin line && not (is_port (third line)) then Some UnknownPort
     else if has_twice (names line) then Some SourceTwice
-    else if is_at line && not (rises before line) then Some NotRising
+    else if is_timed line && not (rises before line) then Some NotRising
+    else if is_pin line && is_twice before line then Some PinTwice
     else None
 
 -- A line and the cause that is told of it.
@@ -127,15 +194,15 @@ fault_among before (line ∷ more) =
     elim (line_cause before line) [ Some cause ↦ Some (record { line = line.number; cause = cause }) | None ↦ fault_among (before ++ line ∷ []) more ]
 
 -- Where no cause applies to a line: there is no `steps` line, told at the number after the last of all lines; or the
--- boundary of an `at` line isn't below its number, told at the first such one.
+-- boundary of an `at` or `pin` line isn't below its number, told at the first such one.
 abbrev pub fault_at_end : ℕ → List Line → Option Fault
 fault_at_end count told =
     elim (find is_steps told) [
       | None ↦ Some (record { line = count + 1; cause = NoSteps })
       | Some last ↦
-          elim (find (λ line. is_at line && nat_le (value last) (value line)) told) [
+          elim (find (λ line. is_timed line && nat_le (value last) (value line)) told) [
             | None ↦ None
-            | Some late ↦ Some (record { line = late.number; cause = PastEnd })
+            | Some past ↦ Some (record { line = past.number; cause = PastEnd })
           ]
     ]
 
@@ -147,10 +214,17 @@ first_fault bytes =
 abbrev pub FirstFault : List ℕ → ℕ → Cause → Type 0
 FirstFault bytes line cause = first_fault bytes ≡ Some (record { line = line; cause = cause })
 
--- What the lines state: the byte of the `fill` line, or 0; the boundary and the sources of each `at` line, in order;
--- and the number of the `steps` line.
+-- What the lines state: the byte of the `fill` line, or 0; when interrupts are late, which is never without a `late`
+-- line; the boundary and the sources of each `at` line, in order; the changes of the `pin` lines, as above; and the
+-- number of the `steps` line.
 abbrev pub fill_of : List Line → ℕ
 fill_of told = elim (find is_fill told) [ None ↦ 0 | Some line ↦ value_after 16 0 (second line) ]
+
+abbrev pub late_in : Line → Late
+late_in line = elim (late_named (second line)) [ None ↦ Never | Some late ↦ late ]
+
+abbrev pub late_of : List Line → Late
+late_of told = elim (find is_late told) [ None ↦ Never | Some line ↦ late_in line ]
 
 abbrev pub arrival_of : Line → Arrival
 arrival_of line = record { at = value line; sources = number_of (λ source. list_any (bytes_eq (source_name source)) (names line)) }
@@ -164,7 +238,9 @@ steps_of told = elim (find is_steps told) [ None ↦ None | Some line ↦ Some (
 -- The script that lines state, and that of a text.
 pub record States (told : List Line) (script : Script) : Type 0 where
   pub fill : script.fill ≡ fill_of told
+  pub late : script.late ≡ late_of told
   pub arrivals : script.arrivals ≡ arrivals_in told
+  pub pins : script.pins ≡ pins_in told
   pub steps : steps_of told ≡ Some script.steps
 
 abbrev pub IsScriptOf : List ℕ → Script → Type 0
@@ -176,11 +252,20 @@ pub record IsArrival (steps : ℕ) (a : Arrival) : Type 0 where
   pub some : 0 < a.sources
   pub known : a.sources < 2048
 
--- A script that a run can take.
+-- A change of a port's pins before the last step, to a byte.
+pub record IsPinChange (steps : ℕ) (p : PinChange) : Type 0 where
+  pub in_time : p.at < steps
+  pub port : p.port < 5
+  pub byte : p.byte < 256
+
+-- A script that a run can take. Arrivals rise, changes of pins don't fall, and no port changes twice at one boundary.
 pub record IsScript (script : Script) : Type 0 where
   pub fill : script.fill < 256
   pub rising : IsStrictlyIncreasing (map (λ a. a.at) script.arrivals)
   pub arrivals : All (IsArrival script.steps) script.arrivals
+  pub order : IsNonDecreasingBy (λ p. p.at) script.pins
+  pub pins : All (IsPinChange script.steps) script.pins
+  pub once : has_pair is_same_pin script.pins ≡ false
   pub some : 1 ≤ script.steps
   pub limit : script.steps ≤ 10000000
 

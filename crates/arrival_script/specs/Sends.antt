@@ -1,8 +1,20 @@
-use Rattle.std.specs.Prelude.{◌≡◌, ℕ, ◌+◌, ◌<◌, ◌≤◌, List, [], ◌∷◌, ◌++◌, Option, Result, Ok, Err}
+-- Text that is held back and sent piece by piece, and what is left of a script.
+use Rattle.std.specs.Prelude.{◌≡◌, ℕ, ◌+◌, ◌<◌, ◌≤◌, false, List, [], ◌∷◌, ◌++◌, Option, Result, Ok, Err}
+use Rattle.std.specs.List.{list_any}
 use Rattle.edge_io.specs.Sinks.{Appends, AppendsPrefix}
+use Rattle.pic_machine.specs.declared.steps.Did.TheVariants.{Stopped}
+use Rattle.pic_machine.specs.Boundary.{Step}
+use Rattle.pic_machine.specs.Dids.{is_stop}
 use Rattle.arrival_script.specs.declared.scripts.Arrival.{Arrival}
+use Rattle.arrival_script.specs.declared.scripts.PinChange.{PinChange}
+use Rattle.arrival_script.specs.Scripts.{is_same_pin}
 use Rattle.arrival_script.specs.declared.traces.TraceFault.{TraceFault}
 use Rattle.arrival_script.specs.declared.traces.TraceFault.TheVariants as fault
+
+-- Changes of pins from a boundary on, in order, of known ports, no two of one port at one boundary.
+abbrev pub ChangeFrom : ℕ → List PinChange → Type 0
+ChangeFrom low [] = Unit {0}
+ChangeFrom low (p ∷ more) = (low ≤ p.at) × (p.port < 5) × (list_any (is_same_pin p) more ≡ false) × ChangeFrom p.at more
 
 -- Arrivals at rising boundaries from one on, of known sources.
 abbrev pub RiseFrom : ℕ → List Arrival → Type 0
@@ -22,11 +34,12 @@ pub record SendsFront (old : Option (List ℕ)) (held : List ℕ) (new : Option 
   pub appended : Appends old new sent
   pub split : held ++ added ≡ sent ++ rest
 
-abbrev pub Adds : Option (List ℕ) → List ℕ → Option (List ℕ) → List ℕ → List ℕ → Result (Unit {0}) TraceFault → Type 0
-Adds old held new kept added (Ok done) = Sends old held new kept added
-Adds old held new kept added (Err (fault.Stopped step address why)) = ⊥
-Adds old held new kept added (Err fault.Failed) = SendsFront old held new added
-Adds old held new kept added (Err fault.Memory) = SendsFront old held new added
+-- Step k was told: its lines were added, and where it stopped all was sent.
+abbrev pub Tells : ℕ → Step → Option (List ℕ) → List ℕ → Option (List ℕ) → List ℕ → List ℕ → Result (Unit {0}) TraceFault → Type 0
+Tells k step old held new kept added (Ok done) = (is_stop step.did ≡ false) × Sends old held new kept added
+Tells k step old held new kept added (Err (fault.Stopped n address why)) = (n ≡ k) × (step.did ≡ Stopped address why) × Appends old new (held ++ added)
+Tells k step old held new kept added (Err fault.Failed) = SendsFront old held new added
+Tells k step old held new kept added (Err fault.Memory) = SendsFront old held new added
 
 -- All that was held back is sent, or a front of it.
 abbrev pub Flushes : Option (List ℕ) → List ℕ → Option (List ℕ) → List ℕ → Result (Unit {0}) TraceFault → Type 0

@@ -1,5 +1,7 @@
-use Rattle.std.specs.Prelude.{◌≡◌, ℕ, zero, suc, ◌+◌, ◌<◌, true, false, ◌==◌, max, if◌then◌else◌, List, [], ◌∷◌, ◌++◌, map, Option, Some, None, Result, Ok, Err, codes, ◌⊎◌}
-use Rattle.std.specs.List.{flat_map, range_with_len, repeat}
+-- What comes from outside by a script, and the text of a trace.
+use Rattle.std.specs.Prelude.{◌≡◌, ℕ, zero, suc, ◌+◌, ◌%◌, ◌<◌, Bool, true, false, ◌==◌, ◌&&◌, max, if◌then◌else◌, List, [], ◌∷◌, ◌++◌, map, Option, Some, None, Result, Ok, Err, codes, ◌⊎◌}
+use Rattle.std.specs.List.{find, flat_map, range_with_len, repeat}
+use Rattle.std.specs.Option.{option_map}
 use Rattle.std.specs.Fmt.{decimal}
 use Rattle.text_parts.specs.Digits.{hex2}
 use Rattle.edge_io.specs.Sinks.{Appends, AppendsPrefix}
@@ -7,20 +9,25 @@ use Rattle.pic_isa.specs.declared.sources.Source.{Source}
 use Rattle.pic_isa.specs.Sources.{source_name}
 use Rattle.pic_isa.specs.Names.{name_of_port}
 use Rattle.pic_regs.specs.declared.starts.Start.{Start}
+use Rattle.pic_regs.specs.Bytes.{Byte, num, bits}
 use Rattle.pic_regs.specs.Registers.{Registers}
 use Rattle.pic_regs.specs.Arrivals.{Sources, no_source, set_of}
 use Rattle.pic_machine.specs.declared.steps.Did.{Did}
 use Rattle.pic_machine.specs.declared.steps.Did.TheVariants.{Took, Ran, Stopped}
 use Rattle.pic_machine.specs.declared.steps.PortWrite.{PortWrite}
-use Rattle.pic_machine.specs.Boundary.{Step}
+use Rattle.pic_machine.specs.Boundary.{Outer, Step}
 use Rattle.pic_machine.specs.Run.{Log}
 use Rattle.pic_machine.specs.Dids.{is_run_at, is_stop}
 use Rattle.pic_machine.specs.StateValues.{value_in}
 use Rattle.map_file.specs.declared.maps.MapEvent.{MapEvent}
 use Rattle.map_file.specs.declared.maps.MapState.{MapState}
+use Rattle.map_file.specs.declared.maps.MapSample.{MapSample}
 use Rattle.map_file.specs.declared.maps.Map.{Map}
 use Rattle.map_file.specs.MapText.{line}
 use Rattle.arrival_script.specs.declared.scripts.Arrival.{Arrival}
+use Rattle.arrival_script.specs.declared.scripts.PinChange.{PinChange}
+use Rattle.arrival_script.specs.declared.scripts.Late.{Late}
+use Rattle.arrival_script.specs.declared.scripts.Late.TheVariants.{Never, Always, Odd}
 use Rattle.arrival_script.specs.declared.scripts.Script.{Script}
 use Rattle.arrival_script.specs.declared.traces.TraceFault.{TraceFault}
 use Rattle.arrival_script.specs.declared.traces.TraceFault.TheVariants as fault
@@ -35,9 +42,26 @@ abbrev pub set_at : List Arrival → ℕ → Sources
 set_at [] boundary = no_source
 set_at (a ∷ more) boundary = if a.at == boundary then set_of a.sources else set_at more boundary
 
--- A script's sets of sources, one for each of its steps.
-abbrev pub sets_of : Script → List Sources
-sets_of script = map (set_at script.arrivals) (range_with_len 0 script.steps)
+-- The pins that change at a boundary, by port.
+abbrev pub pins_at : List PinChange → ℕ → ℕ → Option Byte
+pins_at changes boundary port = option_map (λ p. bits p.byte) (find (λ p. p.at == boundary && p.port == port) changes)
+
+-- A requested interrupt is late at a boundary.
+abbrev pub is_late_at : Late → ℕ → Bool
+is_late_at Never boundary = false
+is_late_at Always boundary = true
+is_late_at Odd boundary = boundary % 2 == 1
+
+-- What comes from outside at a boundary, and at each of a script's steps.
+abbrev pub outer_at : Script → ℕ → Outer
+outer_at script boundary = record {
+  arrivals = set_at script.arrivals boundary;
+  pins = pins_at script.pins boundary;
+  late = is_late_at script.late boundary;
+}
+
+abbrev pub outers_of : Script → List Outer
+outers_of script = map (outer_at script) (range_with_len 0 script.steps)
 
 -- A line of step k.
 abbrev pub step_line : ℕ → List (List ℕ) → List ℕ
@@ -59,6 +83,10 @@ take_line k Took = step_line k (codes "take" ∷ [])
 take_line k (Ran address word) = []
 take_line k (Stopped address why) = []
 
+-- The line of an input that an event sampled: the instruction at the sample's address ran, and W is this byte after it.
+abbrev pub sample_line : ℕ → Did → ℕ → MapSample → List ℕ
+sample_line k did w s = if is_run_at s.at did then step_line k (codes "sample" ∷ s.event ∷ s.input ∷ hex2 w ∷ []) else []
+
 -- The line of an event whose open address ran.
 abbrev pub open_line : ℕ → Did → MapEvent → List ℕ
 open_line k did e = if is_run_at e.«open» did then step_line k (codes "open" ∷ e.name ∷ []) else []
@@ -79,14 +107,15 @@ state_fields m r = map (state_field r) m.states
 abbrev pub commit_line : Map → ℕ → Did → Registers → MapEvent → List ℕ
 commit_line m k did r e = if is_run_at e.commit did then step_line k (codes "commit" ∷ e.name ∷ state_fields m r) else []
 
--- The lines of step k. States are read after the step.
+-- The lines of step k. W and the states are read after the step.
 abbrev pub step_lines : Map → ℕ → Step → List ℕ
 step_lines m k step =
     arrival_lines k step.latched step.merged
     ++ (take_line k step.did
+    ++ (flat_map (sample_line k step.did (num step.after.w)) m.samples
     ++ (flat_map (open_line k step.did) m.events
     ++ (port_line k step.port
-    ++ flat_map (commit_line m k step.did step.after.regs) m.events)))
+    ++ flat_map (commit_line m k step.did step.after.regs) m.events))))
 
 -- The lines of the first n steps.
 abbrev pub lines_of : Map → Log → ℕ → List ℕ

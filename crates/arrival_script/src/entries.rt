@@ -1,23 +1,26 @@
+// What a line says by itself.
 ghost use Rattle.std.specs.Prelude.{◌≡◌, ◌<◌, ◌≤◌, ◌^◌, ◌∷◌, [], false, true, length, MatchOption, IsTrue, codes, ◌||◌, ◌*◌};
 ghost use Rattle.std.specs.List.{list_all, list_any};
 ghost use Rattle.std.specs.Str.{bytes_eq};
-ghost use Rattle.text_parts.specs.Bytes.{is_digit, is_hex_digit};
-ghost use Rattle.text_parts.specs.Numbers.{digit_value, value_after};
+ghost use Rattle.text_parts.specs.Fields.{fields_of};
+ghost use Rattle.text_parts.specs.Numbers.{value_after};
 ghost use Rattle.pic_isa.specs.Sources.{source_name, source_number};
 ghost use Rattle.pic_regs.specs.Arrivals.{number_of, set_of};
-ghost use Rattle.arrival_script.specs.Scripts.{fields_of, is_byte, is_number, is_source, has_twice};
+ghost use Rattle.arrival_script.specs.Scripts.{is_number, is_source, is_port, port_number, late_named};
 ghost use Rattle.arrival_script.specs.Entries.{EntryOf, SetOf, line_of};
 
-use crate::fields::next_field;
-use crate::scripts::{Arrival, Cause};
-use pic_isa::{Source, source_named};
+use crate::scripts::{Arrival, Cause, Late, PinChange};
+use pic_isa::{Source, port_named, source_named};
 use std::str;
+use text_parts::{byte_in, decimal_in, next_field};
 
 /// What a line says by itself.
 #[derive(Clone, Copy, Debug, PartialEq, Eq)]
 pub(crate) enum Entry {
     Fill(u8),
+    Late(Late),
     At(Arrival),
+    Pin(PinChange),
     Steps(u32),
 }
 
@@ -27,43 +30,14 @@ const LONGEST_NUMBER: usize = 8;
 /// The greatest number of steps.
 const MOST_STEPS: u32 = 10_000_000;
 
-// What a hexadecimal digit of either case stands for.
-fn hex_value(digit: u8) -> Option<u8>
-    ensures { MatchOption result (is_hex_digit digit ≡ false) (λ value. IsTrue (is_hex_digit digit) × (value ≡ digit_value digit) × (value < 16)) }
-{
-    match digit {
-        b'0'..=b'9' => Some(digit - b'0'),
-        b'A'..=b'F' => Some(digit - b'A' + 10),
-        b'a'..=b'f' => Some(digit - b'a' + 10),
-        _ => None,
-    }
-}
-
-// The byte that two hexadecimal digits are.
-fn byte_of(field: &[u8]) -> Option<u8>
-    ensures { MatchOption result (is_byte field.now ≡ false) (λ byte. IsTrue (is_byte field.now) × (byte ≡ value_after 16 0 field.now)) }
-{
-    match field {
-        [high, low] => Some(hex_value(*high)? * 16 + hex_value(*low)?),
-        _ => None,
-    }
-}
-
 // The number that one to eight decimal digits are.
 fn number_of(field: &[u8]) -> Option<u32>
     ensures { MatchOption result (is_number field.now ≡ false) (λ n. IsTrue (is_number field.now) × (n ≡ value_after 10 0 field.now)) }
 {
-    if field.is_empty() || field.len() > LONGEST_NUMBER {
+    if field.len() > LONGEST_NUMBER {
         return None;
     }
-    let mut value = 0;
-    for digit in field {
-        if !digit.is_ascii_digit() {
-            return None;
-        }
-        value = value * 10 + u32::from(*digit - b'0');
-    }
-    Some(value)
+    decimal_in(field)
 }
 
 // The source that a field names.
@@ -72,6 +46,16 @@ fn source_of(field: &[u8]) -> Option<Source>
 {
     match str::from_utf8(field) {
         Ok(name) => source_named(name),
+        Err(_) => None,
+    }
+}
+
+// The number of the port that a field names.
+fn port_of(field: &[u8]) -> Option<u8>
+    ensures { MatchOption result (is_port field.now ≡ false) (λ port. IsTrue (is_port field.now) × (port ≡ port_number field.now) × (port < 5)) }
+{
+    match str::from_utf8(field) {
+        Ok(name) => port_named(name),
         Err(_) => None,
     }
 }
@@ -140,8 +124,41 @@ fn fill_entry(text: &[u8]) -> Result<Entry, Cause>
     ensures { EntryOf (line_of (codes "fill" ∷ fields_of text.now)) result }
 {
     let field = only_field(text).ok_or(Cause::BadLine)?;
-    match byte_of(field) {
+    match byte_in(field) {
         Some(byte) => Ok(Entry::Fill(byte)),
+        None => Err(Cause::BadLine),
+    }
+}
+
+// Whether a field is a word.
+fn is_word(field: &[u8], word: &[u8]) -> bool
+    ensures { result ≡ bytes_eq field.now word.now }
+{
+    field == word
+}
+
+// When interrupts are late, by a word.
+fn late_named(field: &[u8]) -> Option<Late>
+    ensures { result ≡ late_named field.now }
+{
+    if is_word(field, b"never") {
+        Some(Late::Never)
+    } else if is_word(field, b"always") {
+        Some(Late::Always)
+    } else if is_word(field, b"odd") {
+        Some(Late::Odd)
+    } else {
+        None
+    }
+}
+
+// What a line of the word `late` says.
+fn late_entry(text: &[u8]) -> Result<Entry, Cause>
+    ensures { EntryOf (line_of (codes "late" ∷ fields_of text.now)) result }
+{
+    let field = only_field(text).ok_or(Cause::BadLine)?;
+    match late_named(field) {
+        Some(late) => Ok(Entry::Late(late)),
         None => Err(Cause::BadLine),
     }
 }
@@ -157,6 +174,19 @@ fn at_entry(text: &[u8]) -> Result<Entry, Cause>
     let at = number_of(boundary).ok_or(Cause::BadNumber)?;
     let sources = sources_of(names)?;
     Ok(Entry::At(Arrival { at, sources }))
+}
+
+// What a line of the word `pin` says.
+fn pin_entry(text: &[u8]) -> Result<Entry, Cause>
+    ensures { EntryOf (line_of (codes "pin" ∷ fields_of text.now)) result }
+{
+    let (boundary, more) = next_field(text).ok_or(Cause::BadLine)?;
+    let (name, last) = next_field(more).ok_or(Cause::BadLine)?;
+    let field = only_field(last).ok_or(Cause::BadLine)?;
+    let byte = byte_in(field).ok_or(Cause::BadLine)?;
+    let at = number_of(boundary).ok_or(Cause::BadNumber)?;
+    let port = port_of(name).ok_or(Cause::UnknownPort)?;
+    Ok(Entry::Pin(PinChange { at, port, byte }))
 }
 
 // What a line of the word `steps` says.
@@ -177,7 +207,9 @@ pub(crate) fn read_entry(word: &[u8], text: &[u8]) -> Result<Entry, Cause>
 {
     match word {
         b"fill" => fill_entry(text),
+        b"late" => late_entry(text),
         b"at" => at_entry(text),
+        b"pin" => pin_entry(text),
         b"steps" => steps_entry(text),
         _ => Err(Cause::BadLine),
     }

@@ -7,13 +7,14 @@
 
 mod drafts;
 mod entries;
-mod fields;
 mod lines;
-mod named;
+mod marked_addresses;
 mod reader;
 mod scripts;
+mod sends;
+mod tracer;
 mod traces;
 
 pub use reader::read_script;
-pub use scripts::{Arrival, Cause, Script, ScriptFault};
+pub use scripts::{Arrival, Cause, Late, PinChange, Script, ScriptFault};
 pub use traces::{TraceFault, trace};

@@ -1,3 +1,4 @@
+// The lines of a trace.
 ghost use Rattle.std.specs.Prelude.{◌≡◌, ◌++◌, ◌<◌, ◌∷◌, [], OnOk, string_bytes, codes};
 ghost use Rattle.std.specs.Fmt.{decimal};
 ghost use Rattle.std.specs.List.{AllByRecursion, flat_map};
@@ -11,14 +12,14 @@ ghost use Rattle.pic_machine.specs.Dids.{is_run_at};
 ghost use Rattle.pic_machine.specs.StateValues.{value_in};
 ghost use Rattle.map_file.specs.MapRules.{IsMap, IsState};
 ghost use Rattle.map_file.specs.MapText.{line};
-ghost use Rattle.arrival_script.specs.Trace.{arrival_line, commit_line, open_line, port_line, state_fields, state_field, step_line, step_lines, take_line};
+ghost use Rattle.arrival_script.specs.Trace.{arrival_line, commit_line, open_line, port_line, sample_line, state_fields, state_field, step_line, step_lines, take_line};
 ghost use Rattle.arrival_script.specs.TraceParts.{spaced};
 
 use crate::entries::has;
 use frp_tree::Ty;
-use map_file::{Map, MapEvent, MapState};
+use map_file::{Map, MapEvent, MapSample, MapState};
 use pic_isa::{Source, port_name};
-use pic_machine::{Did, PortWrite, Stepped};
+use pic_machine::{Chip, Did, PortWrite, Stepped};
 use pic_regs::Regs;
 use std::alloc::AllocError;
 
@@ -88,6 +89,40 @@ fn is_run_at(address: u16, did: Did) -> bool
         Did::Ran { address: at, .. } => at == address,
         Did::Took | Did::Stopped { .. } => false,
     }
+}
+
+#[tactic(auto, using(text_parts::proofs::DigitLaws::hex2_written))]
+fn write_sample(
+    text: &mut String,
+    step: u32,
+    did: Did,
+    w: u8,
+    sample: &MapSample,
+) -> Result<(), AllocError>
+    ensures { OnOk result (string_bytes text.new ≡ string_bytes text.old ++ sample_line step did w sample.now) }
+{
+    let event = sample.event.as_str();
+    let input = sample.input.as_str();
+    if is_run_at(sample.at, did) {
+        writeln!(text, "{step} sample {event} {input} {w:02X}")
+    } else {
+        Ok(())
+    }
+}
+
+fn write_samples(
+    text: &mut String,
+    step: u32,
+    did: Did,
+    w: u8,
+    samples: &[MapSample],
+) -> Result<(), AllocError>
+    ensures { OnOk result (string_bytes text.new ≡ string_bytes text.old ++ flat_map (sample_line step did w) samples.now) }
+{
+    for sample in samples {
+        write_sample(text, step, did, w, sample)?;
+    }
+    Ok(())
 }
 
 fn write_open(text: &mut String, step: u32, did: Did, event: &MapEvent) -> Result<(), AllocError>
@@ -223,17 +258,18 @@ pub(crate) fn write_step(
     map: &Map,
     step: u32,
     report: &Stepped,
-    regs: &Regs,
+    chip: &Chip,
 ) -> Result<(), AllocError>
     requires { IsMap map.now }
-    ensures { (told : Step) → report.now ≡ stepped told → registers_of regs.now ≡ told.after.regs
+    ensures { (told : Step) → report.now ≡ stepped told → chip_of chip.now ≡ told.after
         → OnOk result (string_bytes text.new ≡ string_bytes text.old ++ step_lines map.now step told) }
 {
     write_arrivals(text, step, report.latched, report.merged, &SOURCES)?;
     write_take(text, step, report.did)?;
+    write_samples(text, step, report.did, chip.w(), map.samples.as_slice())?;
     write_opens(text, step, report.did, map.events.as_slice())?;
     write_port(text, step, report.port)?;
-    write_commits(text, step, report.did, regs, map)
+    write_commits(text, step, report.did, chip.regs(), map)
 }
 
 fn begin_end(text: &mut String, steps: u32, deepest: u8) -> Result<(), AllocError>
@@ -243,7 +279,7 @@ fn begin_end(text: &mut String, steps: u32, deepest: u8) -> Result<(), AllocErro
     write!(text, "end {steps} deepest {deepest}")
 }
 
-/// Adds the line behind the last step.
+/// Adds the line after the last step.
 pub(crate) fn write_end(
     text: &mut String,
     map: &Map,

@@ -1,28 +1,20 @@
-ghost use Rattle.std.specs.Prelude.{◌≡◌, ◌+◌, ◌<◌, ◌≤◌, ℕ, max, false, string_bytes, IsErrOf, MatchOption};
+// The trace of an image under a script.
+ghost use Rattle.std.specs.Prelude.{◌≡◌, ◌≤◌, IsErrOf};
 ghost use Rattle.edge_io.specs.Counts.{Rose};
 ghost use Rattle.hex_file.specs.Written.{IsWritable};
-ghost use Rattle.pic_regs.specs.Arrivals.{set_of};
-ghost use Rattle.pic_regs.specs.State.{registers_of};
-ghost use Rattle.pic_machine.specs.Boundary.{Step, stepped};
 ghost use Rattle.pic_machine.specs.Run.{run};
-ghost use Rattle.pic_machine.specs.Dids.{is_stop};
 ghost use Rattle.map_file.specs.MapRules.{IsMap};
 ghost use Rattle.arrival_script.specs.Scripts.{IsScript};
-ghost use Rattle.arrival_script.specs.Sends.{Adds, Flushes, RiseFrom};
-ghost use Rattle.arrival_script.specs.Trace.{Traces, set_at, sets_of, start_of, step_lines};
+ghost use Rattle.arrival_script.specs.Trace.{Traces, outers_of, start_of};
 
-use crate::lines::{write_end, write_step};
-use crate::named::{is_plain, named_addresses};
-use crate::scripts::{Arrival, Script};
+use crate::marked_addresses::marked_addresses;
+use crate::scripts::Script;
+use crate::tracer::Tracer;
 use edge_io::{PutFault, Sink};
 use hex_file::Image;
 use map_file::Map;
-use pic_machine::{Chip, Did, Stepped, Why};
-use pic_regs::{Regs, Start};
+use pic_machine::Why;
 use std::alloc::{AllocError, Global};
-
-/// The length of text, in bytes, from which on it is put.
-const PAGE: usize = 4096;
 
 /// Why a trace isn't whole.
 #[derive(Clone, Copy, Debug, PartialEq, Eq)]
@@ -31,7 +23,7 @@ pub enum TraceFault {
     Stopped { step: u32, address: u16, why: Why },
     /// A put failed. The sink's count of put faults rose.
     Failed,
-    /// Want of memory.
+    /// Out of memory.
     Memory,
 }
 
@@ -60,89 +52,11 @@ impl From<AllocError> for TraceFault {
     }
 }
 
-// The chip's start by a script.
-fn start_of(script: &Script) -> Start
-    ensures { result ≡ start_of script.now }
-{
-    Start {
-        ram: [script.fill; 368],
-        w: script.fill,
-        flags: script.fill,
-    }
-}
-
-// The sources that arrive at a boundary, as a set, and the arrivals behind it.
-fn next_arrivals(pending: &[Arrival], boundary: u32) -> (u16, &[Arrival])
-    requires { RiseFrom boundary pending.now }
-    ensures set { set_of result.0 ≡ set_at pending.now boundary }
-    ensures known { result.0 < 2048 }
-    ensures later { (k : ℕ) → boundary < k → set_at result.1.now k ≡ set_at pending.now k }
-    ensures rise { RiseFrom (boundary + 1) result.1.now }
-{
-    let [first, later @ ..] = pending else {
-        return (0, pending);
-    };
-    if first.at == boundary {
-        (first.sources, later)
-    } else {
-        (0, pending)
-    }
-}
-
-fn greater(a: u8, b: u8) -> u8
-    ensures { result ≡ max a b }
-{
-    if a < b { b } else { a }
-}
-
-// Where and why a step stopped.
-fn stop_of(did: Did) -> Option<(u16, Why)>
-    ensures { MatchOption result (is_stop did ≡ false) (λ stop. did ≡ Did.Stopped stop.0 stop.1) }
-{
-    match did {
-        Did::Stopped { address, why } => Some((address, why)),
-        Did::Took | Did::Ran { .. } => None,
-    }
-}
-
-// Puts the text that is held back. Its memory is kept.
-fn flush<S: Sink>(alloc: Global, text: &mut String, out: &mut S) -> Result<(), TraceFault>
-    ensures sent { Flushes (S.seen out.old).taken (string_bytes text.old) (S.seen out.new).taken (string_bytes text.new) result }
-    ensures failed { IsErrOf result TraceFault.Failed → Rose (S.seen out.old).put_faults (S.seen out.new).put_faults }
-    ensures count { (S.seen out.old).put_faults ≤ (S.seen out.new).put_faults }
-{
-    out.put(alloc, text.as_bytes())?;
-    text.clear();
-    Ok(())
-}
-
-// Adds the lines of a step, if any, and puts the text where it is long.
-fn tell_step<S: Sink>(
-    alloc: Global,
-    text: &mut String,
-    map: &Map,
-    step: u32,
-    report: &Stepped,
-    regs: &Regs,
-    out: &mut S,
-) -> Result<(), TraceFault>
-    requires { IsMap map.now }
-    ensures sent { (told : Step) → report.now ≡ stepped told → registers_of regs.now ≡ told.after.regs
-        → Adds (S.seen out.old).taken (string_bytes text.old) (S.seen out.new).taken (string_bytes text.new) (step_lines map.now step told) result }
-    ensures failed { IsErrOf result TraceFault.Failed → Rose (S.seen out.old).put_faults (S.seen out.new).put_faults }
-    ensures count { (S.seen out.old).put_faults ≤ (S.seen out.new).put_faults }
-{
-    write_step(text, map, step, report, regs)?;
-    if text.len() < PAGE {
-        return Ok(());
-    }
-    flush(alloc, text, out)
-}
-
-/// Puts the trace of an image under a script: for each step the lines of what arrived, a taking, events that opened, a
-/// byte on a port and events that committed with the states, and a last line with the greatest depth and the states.
+/// Puts the trace of an image under a script: for each step the lines of what arrived, a taking, inputs that were
+/// sampled, events that opened, a byte on a port and events that committed with the states, and a last line with the
+/// greatest depth and the states.
 /// `Stopped` exactly where the chip stops within the script's steps and no put failed before; the text up to the stop
-/// was put. After `Failed` and after `Memory` a front of the text was put.
+/// was put. After `Failed` and after `Memory` a prefix of the text was put.
 pub fn trace<S: Sink>(
     alloc: Global,
     image: &Image,
@@ -153,29 +67,14 @@ pub fn trace<S: Sink>(
     requires writable { IsWritable image.now }
     requires map { IsMap map.now }
     requires script { IsScript s.now }
-    ensures traced { Traces map.now (run image.now (start_of s.now) (sets_of s.now)) s.now.steps (S.seen out.old).taken (S.seen out.new).taken result }
+    ensures traced { Traces map.now (run image.now (start_of s.now) (outers_of s.now)) s.now.steps (S.seen out.old).taken (S.seen out.new).taken result }
     ensures failed { IsErrOf result TraceFault.Failed → Rose (S.seen out.old).put_faults (S.seen out.new).put_faults }
     ensures count { (S.seen out.old).put_faults ≤ (S.seen out.new).put_faults }
 {
-    let mut chip = Chip::power_on(image, &start_of(s));
-    let mut text = String::new(alloc);
-    let named = named_addresses(map.events.as_slice());
-    let mut pending = s.arrivals.as_slice();
-    let mut deepest = 0;
+    let marked = marked_addresses(map);
+    let mut tracer = Tracer::new(alloc, image, s);
     for step in 0..s.steps {
-        let (arrivals, later) = next_arrivals(pending, step);
-        pending = later;
-        let report = chip.step(arrivals);
-        deepest = greater(deepest, chip.depth());
-        if is_plain(&named, &report) {
-            continue;
-        }
-        tell_step(alloc, &mut text, map, step, &report, chip.regs(), out)?;
-        if let Some((address, why)) = stop_of(report.did) {
-            flush(alloc, &mut text, out)?;
-            return Err(TraceFault::Stopped { step, address, why });
-        }
+        tracer.advance(alloc, map, &marked, step, out)?;
     }
-    write_end(&mut text, map, s.steps, deepest, chip.regs())?;
-    flush(alloc, &mut text, out)
+    tracer.finish(alloc, map, s.steps, out)
 }

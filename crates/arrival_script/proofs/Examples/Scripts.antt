@@ -1,9 +1,12 @@
 -- Worked texts: what they state, and the first fault of each.
 use Rattle.std.proofs.Common.{◌≡◌, ℕ, List, [], ◌∷◌, ◌++◌, Option, Some, None, codes, refl}
 use Rattle.arrival_script.specs.declared.scripts.Arrival.{Arrival}
+use Rattle.arrival_script.specs.declared.scripts.PinChange.{PinChange}
+use Rattle.arrival_script.specs.declared.scripts.Late.TheVariants.{Never, Always, Odd}
 use Rattle.arrival_script.specs.declared.scripts.Cause.{Cause}
-use Rattle.arrival_script.specs.declared.scripts.Cause.TheVariants.{AfterSteps, BadLine, BadNumber, UnknownSource, SourceTwice, NotRising, NoSteps, PastEnd}
-use Rattle.arrival_script.specs.Scripts.{Fault, fields_of, told_lines, first_fault, fill_of, arrivals_in, steps_of}
+use Rattle.arrival_script.specs.declared.scripts.Cause.TheVariants.{AfterSteps, BadLine, BadNumber, UnknownSource, UnknownPort, SourceTwice, NotRising, PinTwice, NoSteps, PastEnd}
+use Rattle.text_parts.specs.Fields.{fields_of}
+use Rattle.arrival_script.specs.Scripts.{Fault, told_lines, first_fault, fill_of, late_of, arrivals_in, pins_in, steps_of}
 
 abbrev line : List ℕ → List ℕ
 line text = text ++ codes "\n"
@@ -13,6 +16,9 @@ told n cause = Some (record { line = n; cause = cause })
 
 abbrev arrival : ℕ → ℕ → Arrival
 arrival boundary set = record { at = boundary; sources = set }
+
+abbrev change : ℕ → ℕ → ℕ → PinChange
+change boundary port byte = record { at = boundary; port = port; byte = byte }
 
 -- Spaces stand at the ends of lines and between fields, a line ends in CR LF, and the last has no ending.
 abbrev whole : List ℕ
@@ -41,6 +47,25 @@ alone-passes = refl
 alone-fill : fill_of (told_lines steps_alone) ≡ 0
 alone-fill = refl
 
+alone-late : late_of (told_lines steps_alone) ≡ Never
+alone-late = refl
+
+-- Late interrupts and changes of pins. At one boundary pins may change before and after an arrival, and at several ports.
+abbrev outside : List ℕ
+outside = line (codes "fill 01") ++ line (codes "late odd") ++ line (codes "pin 0 PORTB 10") ++ line (codes "pin 7 PORTC 0f") ++ line (codes "at 7 INT") ++ line (codes " pin  7 PORTB FF") ++ codes "steps 8"
+
+outside-passes : first_fault outside ≡ None
+outside-passes = refl
+
+outside-late : late_of (told_lines outside) ≡ Odd
+outside-late = refl
+
+outside-pins : pins_in (told_lines outside) ≡ change 0 1 0x10 ∷ change 7 2 0x0F ∷ change 7 1 0xFF ∷ []
+outside-pins = refl
+
+late_first : late_of (told_lines (line (codes "late always") ++ codes "steps 1")) ≡ Always
+late_first = refl
+
 -- A tab is no space, and a CR at the very end is a byte of the line.
 tabs : fields_of (codes "at\t1 INT") ≡ codes "at\t1" ∷ codes "INT" ∷ []
 tabs = refl
@@ -67,6 +92,30 @@ one_digit = refl
 late_fill : first_fault (line (codes "fill 00") ++ codes "fill 00") ≡ told 2 BadLine
 late_fill = refl
 
+late_alone : first_fault (codes "late") ≡ told 1 BadLine
+late_alone = refl
+
+other_late : first_fault (codes "late even") ≡ told 1 BadLine
+other_late = refl
+
+late_twice : first_fault (line (codes "late never") ++ codes "late never") ≡ told 2 BadLine
+late_twice = refl
+
+late_after_at : first_fault (line (codes "fill 00") ++ line (codes "at 5 INT") ++ codes "late odd") ≡ told 3 BadLine
+late_after_at = refl
+
+fill_after_late : first_fault (line (codes "late odd") ++ codes "fill 00") ≡ told 2 BadLine
+fill_after_late = refl
+
+three_of_a_pin : first_fault (codes "pin 5 PORTB") ≡ told 1 BadLine
+three_of_a_pin = refl
+
+no_pin_byte : first_fault (codes "pin x PORTX 0") ≡ told 1 BadLine
+no_pin_byte = refl
+
+no_pin_number : first_fault (codes "pin x PORTX 00") ≡ told 1 BadNumber
+no_pin_number = refl
+
 nine_digits : first_fault (codes "at 000000001 RB") ≡ told 1 BadNumber
 nine_digits = refl
 
@@ -85,6 +134,21 @@ source_twice = refl
 not_rising : first_fault (line (codes "at 5 INT") ++ codes "at 5 T0") ≡ told 2 NotRising
 not_rising = refl
 
+unknown_port : first_fault (codes "pin 5 PORTX 00") ≡ told 1 UnknownPort
+unknown_port = refl
+
+pin_falls : first_fault (line (codes "at 5 INT") ++ codes "pin 4 PORTB 00") ≡ told 2 NotRising
+pin_falls = refl
+
+at_falls : first_fault (line (codes "pin 5 PORTB 00") ++ codes "at 4 INT") ≡ told 2 NotRising
+at_falls = refl
+
+at_twice : first_fault (line (codes "at 5 INT") ++ line (codes "pin 5 PORTB 00") ++ codes "at 5 T0") ≡ told 3 NotRising
+at_twice = refl
+
+pin_twice : first_fault (line (codes "pin 5 PORTB 00") ++ line (codes "pin 5 PORTA 00") ++ codes "pin 5 PORTB 01") ≡ told 3 PinTwice
+pin_twice = refl
+
 no_steps : first_fault (line (codes "at 5 INT") ++ line (codes "# no more")) ≡ told 3 NoSteps
 no_steps = refl
 
@@ -93,3 +157,6 @@ empty_text = refl
 
 past_end : first_fault (line (codes "at 5 INT") ++ line (codes "at 6 T0") ++ line (codes "at 7 T0") ++ codes "steps 6") ≡ told 2 PastEnd
 past_end = refl
+
+pin_past_end : first_fault (line (codes "at 5 INT") ++ line (codes "pin 6 PORTB 00") ++ line (codes "at 7 T0") ++ codes "steps 6") ≡ told 2 PastEnd
+pin_past_end = refl

@@ -1,5 +1,5 @@
 use Rattle.std.proofs.Common.{◌≡◌, ◌<◌, ◌||◌, ap, sym, subst, ◌∙◌}
-use Rattle.arrival_script.specs.Scripts.{fields_of}
+use Rattle.text_parts.specs.Fields.{fields_of}
 use Rattle.pic_regs.specs.Arrivals.{set_of}
 use Rattle.arrival_script.proofs.SourceFacts.{number_of-below}
 use Rattle.arrival_script.proofs.NameFacts.{NamesSoFar, named_by, names-more, names-set}

@@ -1,5 +1,5 @@
 use Rattle.std.proofs.Common.{length}
-use Rattle.arrival_script.specs.Scripts.{fields_of}
+use Rattle.text_parts.specs.Fields.{fields_of}
 use Rattle.arrival_script.proofs.NameFacts.{NamesSoFar}
 use Rattle.arrival_script.proofs.entries.sources_of.Given as goal
 

@@ -1,5 +1,5 @@
 use Rattle.std.proofs.Common.{◌∷◌, refl, sym, ◌∙◌}
-use Rattle.arrival_script.specs.Scripts.{fields_of}
+use Rattle.text_parts.specs.Fields.{fields_of}
 use Rattle.arrival_script.proofs.CauseFacts.{cause-after, cause-own}
 use Rattle.arrival_script.proofs.DraftFacts.{steps-told, adds-entry, takes-told}
 use Rattle.arrival_script.proofs.drafts.Draft.read_line.Goals as goal

@@ -1,5 +1,5 @@
 use Rattle.arrival_script.proofs.RunFacts.{later-pending}
-use Rattle.arrival_script.proofs.traces.next_arrivals.Goals as goal
+use Rattle.arrival_script.proofs.tracer.next_arrivals.Goals as goal
 
 pub returns-else-first-boundary-clause-set : goal.returns-else-first-boundary-clause-set
 returns-else-first-boundary-clause-set c =
