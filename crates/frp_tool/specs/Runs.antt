@@ -5,15 +5,15 @@ use Rattle.edge_io.specs.Counts.{Rose}
 use Rattle.pic_machine.specs.declared.steps.Did.TheVariants.{Stopped}
 use Rattle.pic_machine.specs.declared.steps.Why.{Why}
 use Rattle.pic_machine.specs.Run.{Log, run}
-use Rattle.arrival_script.specs.Trace.{start_of, sets_of, lines_of, trace_text, GoesOn, StopsFirst}
+use Rattle.arrival_script.specs.Trace.{start_of, outers_of, lines_of, trace_text, GoesOn, StopsFirst}
 use Rattle.frp_tool.specs.declared.inputs.Parts.{Parts}
 use Rattle.frp_tool.specs.Outsides.{Outside}
 use Rattle.frp_tool.specs.RunLines.{stop_line}
 use Rattle.frp_tool.specs.RunFaults.{RunRequest, RunFault, fault_status, fault_line, FaultCause, ArePartsOf}
 
--- The run of the image from power-on, with the sources arriving that the script says.
+-- The run of the image from power-on, under what the script says comes from outside.
 abbrev pub log_of : Parts → Log
-log_of p = run p.image (start_of p.script) (sets_of p.script)
+log_of p = run p.image (start_of p.script) (outers_of p.script)
 
 -- What a `run` comes to: there is no run; the chip stops, at this step and address; or the run goes to its end.
 pub data RunVerdict : Type 0 where

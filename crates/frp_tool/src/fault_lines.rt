@@ -75,8 +75,10 @@ fn cause_word(cause: Cause) -> &'static str
         Cause::BadLine => "line",
         Cause::BadNumber => "number",
         Cause::UnknownSource => "source",
+        Cause::UnknownPort => "port",
         Cause::SourceTwice => "twice",
         Cause::NotRising => "rising",
+        Cause::PinTwice => "pintwice",
         Cause::NoSteps => "nosteps",
         Cause::PastEnd => "past",
     }
