@@ -1,18 +1,13 @@
 -- What std's `parse` and `from_utf8` make of decimal numbers without a leading zero.
-use Rattle.std.proofs.Common.{◌≡◌, ◌≢◌, ℕ, zero, suc, ◌^◌, ◌<◌, true, ◌||◌, nat_le, List, [], ◌∷◌, length, get_or, MatchOption, Result, Ok, Err, refl, sym, ap, subst, ◌∙◌, arith}
-use Rattle.std.specs.List.{list_all}
-use Rattle.std.specs.Str.{IsAscii, IsUtf8}
+use Rattle.std.proofs.Common.{◌≡◌, ◌≢◌, ℕ, zero, suc, ◌^◌, ◌<◌, true, List, [], ◌∷◌, length, get_or, MatchOption, Result, Ok, Err, refl, sym, ap, subst, ◌∙◌, arith}
+use Rattle.std.specs.Str.{IsUtf8}
 use Rattle.std.specs.Fmt.{decimal}
 use Rattle.std.specs.Result.{OkIff, result_ok}
 use Rattle.std.specs.Str.Parse.{ParsesUnsigned, AllDigits, digits_value}
-use Rattle.std.proofs.lemmas.Bool.{and_parts}
 use Rattle.std.proofs.lemmas.Bool.Decides.{nat_tests}
 use Rattle.std.proofs.lemmas.Str.{IsUtf8-from_ascii}
-use Rattle.std.proofs.lemmas.Str.Ascii.{IsAscii-nil, IsAscii-cons}
 use Rattle.std.proofs.lemmas.Str.Parse.{IsNumeralModel, numerals_by_value, tells_digits, parse_plain}
 use Rattle.std.proofs.lemmas.Fmt.{IsAscii-decimal, parse-decimal, first_decimal, decimal_digit, decimal-digits_value}
-use Rattle.text_parts.specs.Bytes.{is_letter, is_digit}
-use Rattle.text_parts.specs.Names.{has_form_of_name, is_name}
 use Rattle.text_parts.specs.Numbers.{is_plain}
 
 pub decimal_utf8 : (n : ℕ) → n < 2 ^ 64 → IsUtf8 (decimal n)

@@ -1,8 +1,8 @@
 -- Texts with their tokens, and texts with their faults.
-use Rattle.std.proofs.Common.{◌≡◌, ℕ, true, false, List, [], ◌∷◌, Some, codes, slice_get, refl, ap, arith, lit≤}
+use Rattle.std.proofs.Common.{◌≡◌, ℕ, true, false, List, [], ◌∷◌, Some, codes, refl, ap, arith, lit≤}
 use Rattle.text_parts.specs.Bytes.{is_hex_digit, begins}
 use Rattle.text_parts.specs.Numbers.{value_after}
-use Rattle.frp_tree.specs.Tokens.{marks, is_blank, HasTokens, IsBadByte, here}
+use Rattle.frp_tree.specs.Tokens.{is_blank, HasTokens, IsBadByte, here}
 use Rattle.frp_tree.specs.Prefixes.{IsFirstToken, Skips}
 use Rattle.frp_tree.specs.declared.marks.TheConstants.{ARROW}
 use Rattle.frp_tree.specs.declared.tokens.Token.TheVariants as token
