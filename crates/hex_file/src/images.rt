@@ -1,3 +1,4 @@
+// Images: the words of program memory, the configuration word, and other bytes.
 use frp_tree::List;
 use std::alloc::{AllocError, Global};
 
