@@ -25,8 +25,8 @@ run-append s [] ys = refl
 run-append s (x ∷ xs) ys = go (section_after s x) (λ t. run-append t xs ys)
   where
     go : (o : Option Section) → ((t : Section) → run t (xs ++ ys) ≡ option_and_then (λ u. run u ys) (run t xs)) → option_and_then (λ t. run t (xs ++ ys)) o ≡ option_and_then (λ t. run t ys) (option_and_then (λ t. run t xs) o)
-    go None behind = refl
-    go (Some t) behind = behind t
+    go None after = refl
+    go (Some t) after = after t
 
 run_ranges : (rs : List Range) (r : Reports) → run section.Registers (map entry.Regs rs ++ (entry.Report r ∷ [])) ≡ Some section.End
 run_ranges [] r = refl

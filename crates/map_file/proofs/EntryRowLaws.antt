@@ -62,8 +62,8 @@ goes_on [] (d ∷ ds) rest h k e = absurd (line_some (line_of d) (text_of ds ++ 
 goes_on (a ∷ all) (d ∷ ds) rest h k e =
     let cut = one_line (line_of a) (line_of d) (text_of all) (text_of ds ++ rest) (entry_whole a h.0) (entry_whole d k.0) (e ∙ append_assoc (line_of d) (text_of ds) rest) in
     let same = one_lined a d h.0 k.0 cut.0 in
-    let behind = goes_on all ds rest h.1 k.1 cut.1 in
-    record { more = behind.more; entries = ap (λ x. x ∷ all) same ∙ ap (λ xs. d ∷ xs) behind.entries; text = behind.text; valid = behind.valid }
+    let after = goes_on all ds rest h.1 k.1 cut.1 in
+    record { more = after.more; entries = ap (λ x. x ∷ all) same ∙ ap (λ xs. d ∷ xs) after.entries; text = after.text; valid = after.valid }
 
 -- A map's text.
 

@@ -44,26 +44,26 @@ body_some [] (entry.Regs r) h = absurd (cc h)
 body_some [] (entry.Report r) h = absurd (cc h)
 body_some (b ∷ bs) e h = omega arith
 
--- The rest's first line behind what was read.
-line_behind : (front rest body behind : List ℕ) → rest ≡ body ++ (10 ∷ behind) → front ++ rest ≡ (front ++ (body ++ codes "\n")) ++ behind
-line_behind front rest body behind e = ap (λ u. front ++ u) (e ∙ sym (append_assoc body (codes "\n") behind)) ∙ sym (append_assoc front (body ++ codes "\n") behind)
+-- The rest's first line after what was read.
+line_after : (before rest body after : List ℕ) → rest ≡ body ++ (10 ∷ after) → before ++ rest ≡ (before ++ (body ++ codes "\n")) ++ after
+line_after before rest body after e = ap (λ u. before ++ u) (e ∙ sym (append_assoc body (codes "\n") after)) ∙ sym (append_assoc before (body ++ codes "\n") after)
 
-pub read_more : (bytes rest body behind : List ℕ) (number : ℕ) (d d' : Draft) (e : Entry)
-    → HasRead bytes rest number d → rest ≡ body ++ (10 ∷ behind) → parts_of body ≡ fields_of e → IsEntry e → Added d e true d' → HasRead bytes behind (number + 1) d'
-read_more bytes rest body behind number d d' e h cut fields v added =
+pub read_more : (bytes rest body after : List ℕ) (number : ℕ) (d d' : Draft) (e : Entry)
+    → HasRead bytes rest number d → rest ≡ body ++ (10 ∷ after) → parts_of body ≡ fields_of e → IsEntry e → Added d e true d' → HasRead bytes after (number + 1) d'
+read_more bytes rest body after number d d' e h cut fields v added =
     let told : body ++ codes "\n" ≡ line_of e = line_told body (fields_of e) fields in
     record {
       entries = h.entries ++ e ∷ [];
-      cut = h.cut ∙ line_behind (text_of h.entries) rest body behind cut
-          ∙ ap (λ u. (text_of h.entries ++ u) ++ behind) (told ∙ sym (append-nil (line_of e)))
-          ∙ ap (λ u. u ++ behind) (sym (text-append h.entries (e ∷ [])));
+      cut = h.cut ∙ line_after (text_of h.entries) rest body after cut
+          ∙ ap (λ u. (text_of h.entries ++ u) ++ after) (told ∙ sym (append-nil (line_of e)))
+          ∙ ap (λ u. u ++ after) (sym (text-append h.entries (e ∷ [])));
       valid = all_append IsEntry h.entries (e ∷ []) h.valid (v, tt);
       counted = omega (arith, h.counted, length-append h.entries (e ∷ []));
       draft = draft_more h.entries d d' e h.draft v added;
-      room = omega (arith, h.room, ap length cut, length-append body (10 ∷ behind), body_some body e fields);
+      room = omega (arith, h.room, ap length cut, length-append body (10 ∷ after), body_some body e fields);
     }
 
--- A map whose row goes on, behind these entries, with the entry of this line.
+-- A map whose row goes on, after these entries, with the entry of this line.
 pub record NextEntry (xs : List Entry) (line : List ℕ) : Type 0 where
   pub map : Map
   pub rules : IsMap map
@@ -93,8 +93,8 @@ read_begins bytes rest number d h =
     }
 
 -- A line that stands next in no map's row is the first faulty one.
-faulty_line : (bytes rest body behind : List ℕ) (number : ℕ) (d : Draft) → (h : HasRead bytes rest number d) → rest ≡ body ++ (10 ∷ behind) → HasNoEnd body → (NextEntry h.entries (body ++ codes "\n") → ⊥) → FirstFaulty bytes number
-faulty_line bytes rest body behind number d h cut one none =
+faulty_line : (bytes rest body after : List ℕ) (number : ℕ) (d : Draft) → (h : HasRead bytes rest number d) → rest ≡ body ++ (10 ∷ after) → HasNoEnd body → (NextEntry h.entries (body ++ codes "\n") → ⊥) → FirstFaulty bytes number
+faulty_line bytes rest body after number d h cut one none =
     let whole : IsWholeLine (body ++ codes "\n") = record { body = body; ends = refl; one = one } in
     record {
       lines = map line_of h.entries;
@@ -103,22 +103,22 @@ faulty_line bytes rest body behind number d h cut one none =
       whole = rows_whole h.entries h.valid;
       number = omega (arith, h.counted, length-map h.entries line_of);
       begins = read_begins bytes rest number d h;
-      refused = λ line behind' whole' e b.
-          let same = (one_line line (body ++ codes "\n") behind' behind whole' whole (sym e ∙ cut ∙ sym (append_assoc body (codes "\n") behind))).0 in
+      refused = λ line after' whole' e b.
+          let same = (one_line line (body ++ codes "\n") after' after whole' whole (sym e ∙ cut ∙ sym (append_assoc body (codes "\n") after))).0 in
           let next = next_entry h.entries line h.valid whole' (subst Begins (ap (λ u. u ++ line) (rows_lines h.entries)) b) in
           none (subst (NextEntry h.entries) same next);
-      no_text = λ t. none (next_entry h.entries (body ++ codes "\n") h.valid whole (record { map = t.map; rules = t.rules; rest = behind; text = sym t.text ∙ h.cut ∙ line_behind (text_of h.entries) rest body behind cut }));
+      no_text = λ t. none (next_entry h.entries (body ++ codes "\n") h.valid whole (record { map = t.map; rules = t.rules; rest = after; text = sym t.text ∙ h.cut ∙ line_after (text_of h.entries) rest body after cut }));
     }
 
 -- A line that states nothing.
-pub no_entry : (bytes rest body behind : List ℕ) (number : ℕ) (d : Draft) → HasRead bytes rest number d → rest ≡ body ++ (10 ∷ behind) → HasNoEnd body
+pub no_entry : (bytes rest body after : List ℕ) (number : ℕ) (d : Draft) → HasRead bytes rest number d → rest ≡ body ++ (10 ∷ after) → HasNoEnd body
     → ((e : Entry) → IsEntry e → parts_of body ≢ fields_of e) → FirstFaulty bytes number
-no_entry bytes rest body behind number d h cut one none = faulty_line bytes rest body behind number d h cut one (λ n. none n.next n.valid (fields_of_line body n.next n.valid n.same))
+no_entry bytes rest body after number d h cut one none = faulty_line bytes rest body after number d h cut one (λ n. none n.next n.valid (fields_of_line body n.next n.valid n.same))
 
 -- A line whose entry isn't admitted.
-pub not_added : (bytes rest body behind : List ℕ) (number : ℕ) (d d' : Draft) (e : Entry) → HasRead bytes rest number d → rest ≡ body ++ (10 ∷ behind) → HasNoEnd body
+pub not_added : (bytes rest body after : List ℕ) (number : ℕ) (d d' : Draft) (e : Entry) → HasRead bytes rest number d → rest ≡ body ++ (10 ∷ after) → HasNoEnd body
     → IsEntry e → parts_of body ≡ fields_of e → Added d e false d' → FirstFaulty bytes number
-not_added bytes rest body behind number d d' e h cut one v fields refused = faulty_line bytes rest body behind number d h cut one (λ n.
+not_added bytes rest body after number d d' e h cut one v fields refused = faulty_line bytes rest body after number d h cut one (λ n.
     let same : n.next ≡ e = one_entry n.next e n.valid v (sym (fields_of_line body n.next n.valid n.same) ∙ fields) in
     draft_refuses n.map h.entries n.more d d' e n.rules h.draft refused (n.row ∙ ap (λ x. h.entries ++ (x ∷ n.more)) same))
 
@@ -131,7 +131,7 @@ no_line_there bytes rest number d h one open_end = record {
   whole = rows_whole h.entries h.valid;
   number = omega (arith, h.counted, length-map h.entries line_of);
   begins = read_begins bytes rest number d h;
-  refused = λ line behind whole e b. no_line rest line behind one whole e;
+  refused = λ line after whole e b. no_line rest line after one whole e;
   no_text = λ t.
       let all = goes_on (entries_of t.map) h.entries rest (row_valid t.map t.rules) h.valid (sym (row_text t.map) ∙ sym t.text ∙ h.cut) in
       go t.map all.more all.valid all.text all.entries;

@@ -31,15 +31,15 @@ nothing = record { map = empty; rules = empty_keeps_the_rules; rest = map_text e
 
 -- The first line is missing.
 no_byte : FirstFaulty [] 1
-no_byte = record { lines = []; rest = []; cut = refl; whole = tt; number = refl; begins = nothing; refused = λ line behind whole e b. line_some line behind whole (sym e); no_text = λ t. cc (t.text) }
+no_byte = record { lines = []; rest = []; cut = refl; whole = tt; number = refl; begins = nothing; refused = λ line after whole e b. line_some line after whole (sym e); no_text = λ t. cc (t.text) }
 
 -- Another version: a map's text has 49 there.
 other_version : List ℕ
 other_version = codes "efrp map 2\n"
 
-unlike : (rest behind : List ℕ) → codes "efrp map 1\n" ++ rest ≢ other_version ++ behind
+unlike : (rest after : List ℕ) → codes "efrp map 1\n" ++ rest ≢ other_version ++ after
 unfolding other_version
-unlike rest behind e = omega (arith, ap (λ (bytes : List ℕ). get_or bytes 9 0) e)
+unlike rest after e = omega (arith, ap (λ (bytes : List ℕ). get_or bytes 9 0) e)
 
 second_version : FirstFaulty other_version 1
 unfolding other_version
@@ -50,15 +50,15 @@ second_version = record {
   whole = tt;
   number = refl;
   begins = nothing;
-  refused = λ line behind whole e b. unlike _ b.rest (b.text ∙ go line behind whole e b.rest);
+  refused = λ line after whole e b. unlike _ b.rest (b.text ∙ go line after whole e b.rest);
   no_text = λ t. unlike _ [] (sym t.text);
 }
   where
     all : IsWholeLine other_version
     all = record { body = codes "efrp map 2"; ends = refl; one = search (arith) }
 
-    go : (line behind : List ℕ) → IsWholeLine line → other_version ≡ line ++ behind → (rest : List ℕ) → line ++ rest ≡ other_version ++ rest
-    go line behind whole e rest = ap (λ u. u ++ rest) (sym (one_line other_version line [] behind all whole e).0)
+    go : (line after : List ℕ) → IsWholeLine line → other_version ≡ line ++ after → (rest : List ℕ) → line ++ rest ≡ other_version ++ rest
+    go line after whole e rest = ap (λ u. u ++ rest) (sym (one_line other_version line [] after all whole e).0)
 
 -- Samples that aren't in the form at their place. The line before has been read.
 
