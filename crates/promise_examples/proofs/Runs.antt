@@ -3,6 +3,7 @@ pub mod Counting
 pub mod Late
 pub mod Merged
 pub mod Moments
+pub mod Pins
 pub mod Promises
 pub mod Puts
 pub mod Serial

@@ -5,6 +5,7 @@ use Rattle.efrp_meaning.specs.Meaning.{Reaction, react, state_after}
 use Rattle.efrp_meaning.proofs.Examples.Programs.{tick}
 use Rattle.firmware_promises.specs.Counts.{opens, commits, window_samples, reactions}
 use Rattle.firmware_promises.specs.Follows.{PutsAreSerial, PutsAre, NoWindow, Window, reaction_puts}
+use Rattle.firmware_promises.proofs.ListLaws.{no_longer}
 use Rattle.firmware_promises.proofs.SampleLaws.{no_samples}
 use Rattle.promise_examples.proofs.Runs.Moments.{AllFrom, each}
 use Rattle.promise_examples.proofs.Runs.Counting.{program, counter_map, two_ticks}
@@ -24,13 +25,9 @@ PutsAt k = NoWindow counter_map two_ticks k → PutsAre program counter_map two_
 puts_at : AllFrom 9 18 PutsAt
 puts_at = (λ none. ([], refl, refl), (λ none. ([], refl, refl), (λ none. ([], refl, refl), (λ none. ([], refl, refl), (λ none. ([], refl, refl), (λ none. ([], refl, refl), (λ none. ([], refl, refl), (λ none. absurd (open_after_16 none), (λ none. (one_value, refl, refl), (λ none. (one_value, refl, refl), (λ none. (one_value, refl, refl), (λ none. (one_value, refl, refl), (λ none. (one_value, refl, refl), (λ none. (one_value, refl, refl), (λ none. (one_value, refl, refl), (λ none. absurd (open_after_24 none), (λ none. (both_values, refl, refl), (λ none. (both_values, refl, refl), tt))))))))))))))))))
 
--- A list is no longer than itself, so no window stands open where as many have opened as committed.
-longer : (xs : List (List ℕ)) (e : List ℕ) → xs ≡ xs ++ e ∷ [] → ⊥
-longer [] e h = let it = h in cc
-longer (x ∷ xs) e h = longer xs e (let it = h in cc)
-
+-- No window stands open where as many have opened as committed.
 closed : (xs opened committed : List (List ℕ)) (e : List ℕ) → opened ≡ xs → committed ≡ xs → opened ≡ committed ++ e ∷ [] → ⊥
-closed xs opened committed e o c h = longer xs e (sym o ∙ (h ∙ ap (λ l. l ++ e ∷ []) c))
+closed xs opened committed e o c h = no_longer xs e (sym o ∙ (h ∙ ap (λ l. l ++ e ∷ []) c))
 
 -- The window after 16 steps is of Tick, and so is that after 24. Nothing of its reaction was put yet.
 last_is_tick : (xs opened committed : List (List ℕ)) (e : List ℕ) → opened ≡ xs ++ tick ∷ [] → committed ≡ xs → opened ≡ committed ++ e ∷ [] → xs ++ e ∷ [] ≡ xs ++ tick ∷ []
