@@ -8,12 +8,13 @@ use Rattle.counter_code.specs.declared.counters.Counter.{Counter}
 use Rattle.counter_code.specs.Counters.{IsCounter, program_of}
 use Rattle.counter_code.specs.Maps.{map_of}
 use Rattle.firmware_promises.specs.MapNames.{states_in}
-use Rattle.firmware_promises.specs.Counts.{chip_after, takes, opened_by, committed_by, commits, window_samples, reactions}
+use Rattle.firmware_promises.specs.Counts.{chip_after, takes, opened_by, committed_by, window_samples, reactions}
 use Rattle.firmware_promises.specs.Ready.{ShowsReady, ReadyAt, BeforeReady}
 use Rattle.firmware_promises.specs.Follows.{Follows, ReadyInTime, BootIsQuiet, Alternates, NoTakingInside, ClosesInTime, StatesAreSerial, PutsAreSerial, PutsAre, BootPutsSetups, NoWindow, Window, setup_puts, reaction_puts}
 use Rattle.firmware_promises.proofs.CountLaws.{one_more}
 use Rattle.firmware_promises.proofs.ListLaws.{no_longer, same_last}
-use Rattle.firmware_promises.proofs.SampleLaws.{unsampled, no_samples, reactions_are_commits, windows_are_sampled}
+use Rattle.firmware_promises.specs.Laws.{unsampled}
+use Rattle.firmware_promises.proofs.SampleLaws.{no_samples, reactions_are_commits, windows_are_sampled}
 use Rattle.firmware_promises.proofs.ReadyLaws.{not_ready_before, unready}
 use Rattle.counter_code.proofs.SerialFacts.{events, occurrences, occurrences_are, value, values, reaction_from, state_is, ports_are, reacts, puts_values}
 use Rattle.counter_code.proofs.PastFacts.{from_ready, each_moment}

@@ -1,5 +1,5 @@
 -- What a step behind the boot is, seen through the counts of the promises.
-use Rattle.std.specs.Prelude.{ℕ, ◌+◌, ◌%◌, ◌<◌, Bool, true, false, not, ◌&&◌, ◌||◌, ◌==◌, Some}
+use Rattle.std.specs.Prelude.{ℕ, ◌+◌, ◌%◌, ◌<◌, Bool, true, false, not, ◌&&◌, ◌==◌, Some}
 use Rattle.std.proofs.Common.{◌≡◌, refl, sym, ap, subst, ◌∙◌, arith}
 use Rattle.std.proofs.lemmas.Bool.{both_ways, or_right}
 use Rattle.std.proofs.Math.Bool.{and-not_self}
@@ -21,7 +21,7 @@ use Rattle.firmware_promises.specs.Counts.{ran_at, interrupts_on, latches, clear
 use Rattle.firmware_promises.specs.Counts as counts
 use Rattle.firmware_promises.specs.Urgent.{is_heard}
 use Rattle.counter_code.proofs.StoryFacts.{Place, Rests, Clears, Opens, Commits, rests, is_clearing, is_opening, is_committing, next, event_in_map, value_after, puts_at}
-use Rattle.counter_code.proofs.SpotFacts.{Kind, NoSetup, LowSetup, HighSetup, kind_of, ready_at, ready_is}
+use Rattle.counter_code.proofs.SpotFacts.{Kind, NoSetup, kind_of, ready_at, ready_is}
 use Rattle.counter_code.proofs.TargetFacts.{Aimed}
 use Rattle.counter_code.proofs.WriteFacts.{Listed, place_listed}
 use Rattle.counter_code.proofs.PlaceStepFacts.{Runs, Takes}

@@ -17,11 +17,11 @@ use Rattle.counter_code.specs.declared.counters.Counter.{Counter}
 use Rattle.counter_code.specs.Counters.{IsCounter}
 use Rattle.counter_code.specs.Layout.{state_byte, is_peripheral, image_of, ready_address}
 use Rattle.counter_code.proofs.StoryFacts.{Place, Rests, Clears, Loads, Adds, Opens, Commits, Returns, rests, next}
-use Rattle.counter_code.proofs.SpotFacts.{Kind, NoSetup, LowSetup, HighSetup, Spot, At, byte_of, kind_of, instruction_at, standing_order, ready_at, ready_is, spot_at, found}
+use Rattle.counter_code.proofs.SpotFacts.{Kind, NoSetup, Spot, At, byte_of, kind_of, instruction_at, standing_order, ready_at, ready_is, spot_at, found}
 use Rattle.counter_code.proofs.TargetFacts.{Aimed, Stands}
 use Rattle.counter_code.proofs.BootStepFacts.{known}
 use Rattle.counter_code.proofs.BootRunFacts.{stands_still, at_last}
-use Rattle.counter_code.proofs.PlaceStepFacts.{due_at, held, register_at, Runs, Takes, runs, delays, takes, request, silent, reaches}
+use Rattle.counter_code.proofs.PlaceStepFacts.{held, register_at, Runs, Takes, runs, delays, takes, request, silent, reaches}
 
 -- The address of a place.
 abbrev pub address_at : Counter → Place → ℕ

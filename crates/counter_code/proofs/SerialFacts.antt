@@ -1,5 +1,5 @@
 -- The serial run of a counter on any number of its events, in closed form.
-use Rattle.std.specs.Prelude.{ℕ, zero, suc, ◌+◌, ◌%◌, ◌<◌, List, [], ◌∷◌, ◌++◌, map, Some, option_map, flat_map}
+use Rattle.std.specs.Prelude.{ℕ, zero, suc, ◌+◌, ◌%◌, List, [], ◌∷◌, ◌++◌, map, Some, option_map, flat_map}
 use Rattle.std.proofs.Common.{◌≡◌, refl, ◌∙◌, ap, ap₂, arith}
 use Rattle.std.proofs.lemmas.List.{map-append}
 use Rattle.std.proofs.lemmas.List.Sums.{fold-append}
@@ -12,7 +12,7 @@ use Rattle.pic_machine.specs.declared.steps.PortWrite.{PortWrite}
 use Rattle.counter_code.specs.declared.counters.Counter.{Counter}
 use Rattle.counter_code.specs.Counters.{IsCounter, program_of}
 use Rattle.firmware_promises.specs.Follows.{reaction_puts, put_on}
-use Rattle.firmware_promises.proofs.SampleLaws.{unsampled}
+use Rattle.firmware_promises.specs.Laws.{unsampled}
 
 -- Its event n times.
 abbrev pub events : Counter → ℕ → List (List ℕ)

@@ -1,5 +1,5 @@
 -- An event that is heard with its flag set: the chip takes an interrupt at that boundary or the next, whatever the firmware.
-use Rattle.std.specs.Prelude.{ℕ, zero, suc, ◌+◌, Bool, true, false, ◌||◌, ◌&&◌, List, [], ◌∷◌, ◌⊎◌}
+use Rattle.std.specs.Prelude.{ℕ, zero, suc, ◌+◌, true, false, ◌||◌, ◌&&◌, List, [], ◌∷◌, ◌⊎◌}
 use Rattle.std.specs.List.{AllByRecursion}
 use Rattle.std.proofs.Common.{◌≡◌, refl, sym, subst, add-one}
 use Rattle.std.proofs.lemmas.Bool.{and_parts}

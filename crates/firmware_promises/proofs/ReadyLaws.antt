@@ -1,6 +1,6 @@
 -- The ready boundary by what the first n steps show.
-use Rattle.std.specs.Prelude.{ℕ, ◌<◌, ◌≤◌, Bool, true, false, ◌⊎◌}
-use Rattle.std.proofs.Common.{◌≡◌, inl, inr, arith}
+use Rattle.std.specs.Prelude.{ℕ, ◌<◌, ◌≤◌, false, ◌⊎◌}
+use Rattle.std.proofs.Common.{◌≡◌, inl, inr}
 use Rattle.std.proofs.lemmas.Bool.{both_ways, cases_lt}
 use Rattle.pic_machine.specs.Run.{Log}
 use Rattle.map_file.specs.declared.maps.Map.{Map}

@@ -1,5 +1,5 @@
 -- Programs with no inputs: their windows need no samples, and their reactions are their commits.
-use Rattle.std.specs.Prelude.{ℕ, zero, suc, ◌<◌, Bool, true, false, List, [], ◌∷◌, ◌++◌, map, filter, if◌then◌else◌}
+use Rattle.std.specs.Prelude.{ℕ, zero, suc, Bool, true, false, List, [], ◌∷◌, ◌++◌, map, filter, if◌then◌else◌}
 use Rattle.std.specs.List.{AllByRecursion, list_any}
 use Rattle.std.specs.Str.{bytes_eq}
 use Rattle.std.proofs.Common.{◌≡◌, refl, sym, ap, ap₂, subst, ◌∙◌}
@@ -7,16 +7,13 @@ use Rattle.std.proofs.lemmas.List.{map-append}
 use Rattle.frp_tree.specs.Tree.{DeclTree, ProgramTree}
 use Rattle.efrp_meaning.specs.Decls.{inputs_of}
 use Rattle.efrp_meaning.specs.Needs.{inputs_needed, is_named_in, needed}
-use Rattle.efrp_meaning.specs.Meaning.{Samples, Occurrence}
+use Rattle.efrp_meaning.specs.Meaning.{Samples}
 use Rattle.pic_machine.specs.Run.{Log}
 use Rattle.map_file.specs.declared.maps.MapEvent.{MapEvent}
 use Rattle.map_file.specs.declared.maps.Map.{Map}
 use Rattle.firmware_promises.specs.Counts.{ran_at, opened_by, committed_by, commits, sample_at, sampled, window_samples, samples_before, reactions}
 use Rattle.firmware_promises.specs.Follows.{IsSampled, WindowsAreSampled}
-
--- An event with no samples.
-abbrev pub unsampled : List ℕ → Occurrence
-unsampled its_event = record { event = its_event; samples = [] }
+use Rattle.firmware_promises.specs.Laws.{unsampled}
 
 neither : (b : Bool) (x y : Samples) → x ≡ [] → y ≡ [] → (if b then x else y) ≡ []
 neither true x y first second = first

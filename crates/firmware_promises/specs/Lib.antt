@@ -2,6 +2,7 @@ pub mod Boots
 pub mod Counts
 pub mod Firmware
 pub mod Follows
+pub mod Laws
 pub mod MapNames
 pub mod Once
 pub mod Ready

@@ -7,7 +7,8 @@ use Rattle.pic_machine.specs.Run.{Log}
 use Rattle.firmware_promises.specs.Counts.{opens, commits, port_writes, reactions}
 use Rattle.firmware_promises.specs.Ready.{ShowsReady, ReadyAt}
 use Rattle.firmware_promises.specs.Follows.{ReadyInTime, BootIsQuiet, Alternates, NoTakingInside, ClosesInTime, StatesAreSerial, PutsAreSerial, BootPutsSetups, WindowsAreSampled, Window}
-use Rattle.firmware_promises.proofs.SampleLaws.{unsampled, reactions_are_commits, windows_are_sampled}
+use Rattle.firmware_promises.specs.Laws.{unsampled}
+use Rattle.firmware_promises.proofs.SampleLaws.{reactions_are_commits, windows_are_sampled}
 use Rattle.promise_examples.proofs.Logs.Stories.{chip, put, met, told, counting, counting_map}
 use Rattle.promise_examples.proofs.Logs.GoodLog.{opens_tick, rests, write_of}
 

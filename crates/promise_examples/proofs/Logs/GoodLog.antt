@@ -7,7 +7,8 @@ use Rattle.pic_machine.specs.declared.steps.PortWrite.{PortWrite}
 use Rattle.pic_machine.specs.Boundary.{Step}
 use Rattle.pic_machine.specs.Run.{Log}
 use Rattle.firmware_promises.specs.Counts.{count, opens, commits, port_writes, reactions}
-use Rattle.firmware_promises.proofs.SampleLaws.{unsampled, reactions_are_commits}
+use Rattle.firmware_promises.specs.Laws.{unsampled}
+use Rattle.firmware_promises.proofs.SampleLaws.{reactions_are_commits}
 use Rattle.promise_examples.proofs.Logs.Stories.{chip, ran, put, took, told, counting, counting_map}
 
 -- The setups' write, the end of the boot, the taking, and the clearing of the flag.

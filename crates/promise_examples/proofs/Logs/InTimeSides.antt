@@ -1,8 +1,7 @@
 -- An event that is heard with its flag set is taken at that boundary or the next: for the clause `in_time` of `Urgent`.
-use Rattle.std.specs.Prelude.{ℕ, zero, suc, ◌<◌, true, false, List, [], ◌∷◌}
+use Rattle.std.specs.Prelude.{ℕ, zero, suc, true, false, [], ◌∷◌}
 use Rattle.std.proofs.Common.{◌≡◌, refl, inl, inr, arith}
 use Rattle.pic_machine.specs.Boundary.{Step}
-use Rattle.pic_machine.specs.Run.{Log}
 use Rattle.firmware_promises.specs.Urgent.{TakesInTime}
 use Rattle.promise_examples.proofs.Logs.Stories.{chip, ran, took, told, counting_map}
 

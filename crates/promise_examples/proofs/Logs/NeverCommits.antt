@@ -7,7 +7,8 @@ use Rattle.pic_machine.specs.Run.{Log}
 use Rattle.firmware_promises.specs.Counts.{opens, commits, port_writes, committed_by, reactions}
 use Rattle.firmware_promises.specs.Ready.{ReadyAt, BeforeReady}
 use Rattle.firmware_promises.specs.Follows.{ReadyInTime, BootIsQuiet, Alternates, NoTakingInside, ClosesInTime, StatesAreSerial, PutsAreSerial, BootPutsSetups, WindowsAreSampled, NoWindow, Window}
-use Rattle.firmware_promises.proofs.SampleLaws.{unsampled, no_samples, reactions_are_commits, windows_are_sampled}
+use Rattle.firmware_promises.specs.Laws.{unsampled}
+use Rattle.firmware_promises.proofs.SampleLaws.{no_samples, reactions_are_commits, windows_are_sampled}
 use Rattle.promise_examples.proofs.Logs.Stories.{chip, ran, counting, counting_map}
 use Rattle.promise_examples.proofs.Logs.GoodLog.{is_taken, clears_flag, write_of}
 use Rattle.promise_examples.proofs.Logs.Booted.{booted, ready_at, ready_from}

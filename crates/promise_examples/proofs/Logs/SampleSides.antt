@@ -1,10 +1,10 @@
 -- Each window has its samples: for the clause `samples` of `Follows`, a log that keeps it and logs that break it. The program's
 -- Tick needs the input `level`, which reads PORTB, and samples it at 18.
-use Rattle.std.specs.Prelude.{ℕ, zero, suc, ◌<◌, ◌≤◌, Bool, true, false, List, [], ◌∷◌, codes, Option, Some}
-use Rattle.std.proofs.Common.{◌≡◌, refl, sym, ap, subst, ◌∙◌, arith}
+use Rattle.std.specs.Prelude.{ℕ, zero, suc, ◌<◌, ◌≤◌, Bool, true, false, List, [], ◌∷◌, codes, Some}
+use Rattle.std.proofs.Common.{◌≡◌, refl, ap, subst, arith}
 use Rattle.frp_tree.specs.declared.syntax.Ty.TheVariants.{U8}
 use Rattle.frp_tree.specs.declared.syntax.Lit.TheVariants as lit
-use Rattle.frp_tree.specs.Tree.{ProgramTree, DeclTree, Name, Input}
+use Rattle.frp_tree.specs.Tree.{ProgramTree, Name, Input}
 use Rattle.efrp_meaning.proofs.Examples.Programs.{event, reactive, clause, output, tick}
 use Rattle.pic_regs.specs.Bytes.{Byte, bits}
 use Rattle.pic_regs.specs.Map.{Port}

@@ -1,6 +1,6 @@
 -- The two ticks where interrupts are late, always and at each odd boundary: the same commits and port writes, each at most one
 -- step later.
-use Rattle.std.specs.Prelude.{ℕ, zero, suc, Bool, true, false, not, List, [], ◌∷◌, ◌++◌, map}
+use Rattle.std.specs.Prelude.{Bool, true, false, not, List, [], ◌∷◌, ◌++◌, map}
 use Rattle.std.proofs.Common.{◌≡◌, refl}
 use Rattle.efrp_meaning.proofs.Examples.Programs.{tick}
 use Rattle.pic_isa.specs.declared.sources.Source.TheVariants.{T0}
