@@ -12,7 +12,7 @@ use Rattle.pic_isa.specs.Instructions.{instruction_of}
 use Rattle.pic_regs.specs.Bytes.{one_if}
 use Rattle.pic_regs.specs.Map.{Reg, Pcl, Status}
 use Rattle.pic_regs.specs.Registers.{flag, requested}
-use Rattle.pic_regs.specs.Arrivals.{arrived, latched, merged}
+use Rattle.pic_regs.specs.Arrivals.{latched, merged}
 use Rattle.pic_regs.proofs.ArrivalLaws.{flag-arrived}
 use Rattle.pic_machine.specs.declared.steps.Did.TheVariants.{Ran}
 use Rattle.pic_machine.specs.Chip.{Chip, advanced}

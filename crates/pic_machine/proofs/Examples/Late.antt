@@ -1,9 +1,9 @@
 -- Interrupts that are taken one instruction late.
-use Rattle.std.specs.Prelude.{ℕ, Bool}
+use Rattle.std.specs.Prelude.{ℕ}
 use Rattle.std.proofs.Common.{◌≡◌, refl, true, false}
 use Rattle.pic_machine.specs.declared.steps.Did.TheVariants.{Took, Ran}
 use Rattle.pic_machine.specs.Chip.{Chip}
-use Rattle.pic_machine.specs.Boundary.{Outer, Step, no_outer, boundary}
+use Rattle.pic_machine.specs.Boundary.{Step, no_outer, boundary}
 use Rattle.pic_machine.proofs.SettingFacts.{fresh, with_pc, with_byte, at}
 
 -- A chip at 0123h with GIE and INT's enable and flag set, and one where no interrupt is requested.

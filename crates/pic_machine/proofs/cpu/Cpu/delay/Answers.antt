@@ -1,9 +1,7 @@
-use Rattle.std.proofs.Common.{◌≡◌, true, Some, ap, sym, ◌∙◌}
-use Rattle.pic_isa.specs.Instructions.{instruction_of}
+use Rattle.std.proofs.Common.{true, ap, sym, ◌∙◌}
 use Rattle.pic_machine.specs.declared.steps.Did.TheVariants.{Ran}
 use Rattle.pic_machine.specs.Boundary.{delayed, waited}
 use Rattle.pic_machine.specs.Chip.{Chip}
-use Rattle.pic_machine.specs.Exec.{exec}
 use Rattle.pic_machine.specs.State.{cpu_of, turn_of}
 use Rattle.pic_machine.proofs.cpu.Cpu.delay.Goals as goal
 
