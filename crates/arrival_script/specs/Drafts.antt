@@ -25,13 +25,13 @@ pub record HasSources (a : Arrival) : Type 0 where
 abbrev pub IsCount : ℕ → Type 0
 IsCount n = (1 ≤ n) × (n ≤ 10000000)
 
--- A change of a port's pins that isn't behind a boundary.
+-- A change of a port's pins that isn't after a boundary.
 pub record IsChangeUpTo (boundary : ℕ) (p : PinChange) : Type 0 where
   pub in_time : p.at ≤ boundary
   pub port : p.port < 5
   pub byte : p.byte < 256
 
--- Changes of pins in order, none behind a boundary.
+-- Changes of pins in order, none after a boundary.
 pub record AreChangesUpTo (boundary : ℕ) (pins : List PinChange) : Type 0 where
   pub order : IsNonDecreasingBy (λ p. p.at) pins
   pub each : All (IsChangeUpTo boundary) pins

@@ -37,7 +37,7 @@ abbrev pub are_samples : List DeclTree → List (List ℕ) → Bool
 are_samples inputs fields =
     list_all (λ field. list_any (gives field) inputs) fields && list_all (λ input. nat_lt (length (filter (λ field. gives field input) fields)) 2) inputs
 
--- What a line states: an event, and behind its name samples of inputs, between spaces.
+-- What a line states: an event, and after its name samples of inputs, between spaces.
 abbrev pub occurrence_in : ProgramTree → List ℕ → Option Occurrence
 occurrence_in p text =
     let event = get_or (fields_of text) 0 [] in

@@ -45,7 +45,7 @@ told_from n (text ∷ texts) =
 abbrev pub told_lines : List ℕ → List Line
 told_lines bytes = told_from 1 (lines bytes)
 
--- The parts of a line: its word, which is the first field, and the three fields behind it.
+-- The parts of a line: its word, which is the first field, and the three fields after it.
 abbrev pub word : Line → List ℕ
 word line = get_or line.fields 0 []
 
@@ -80,7 +80,7 @@ is_opening line = is_fill line || is_late line
 abbrev pub is_timed : Line → Bool
 is_timed line = is_at line || is_pin line
 
--- The names of an `at` line, which are all fields behind the second.
+-- The names of an `at` line, which are all fields after the second.
 abbrev pub names : Line → List (List ℕ)
 names line = if is_at line then drop 2 line.fields else []
 
@@ -142,7 +142,7 @@ has_form line =
     || is_pin line && length line.fields == 4 && is_byte (fourth line)
     || is_steps line && length line.fields == 2
 
--- A `fill` line stands behind another line, or a `late` line behind another than a `fill` line.
+-- A `fill` line stands after another line, or a `late` line after another than a `fill` line.
 abbrev pub is_misplaced : List Line → Line → Bool
 is_misplaced before line = is_fill line && nat_lt 0 (length before) || is_late line && not (list_all is_fill before)
 
@@ -169,7 +169,7 @@ pins_in told = map pin_of (filter is_pin told)
 abbrev pub is_twice : List Line → Line → Bool
 is_twice before line = list_any (is_same_pin (pin_of line)) (pins_in before)
 
--- The cause that applies to a line behind these lines, all told: the first in this order.
+-- The cause that applies to a line after these lines, all told: the first in this order.
 abbrev pub line_cause : List Line → Line → Option Cause
 line_cause before line =
     if list_any is_steps before then Some AfterSteps
@@ -187,7 +187,7 @@ pub record Fault : Type 0 where
   pub line : ℕ
   pub cause : Cause
 
--- The first fault among lines that stand behind others: the first line to which a cause applies.
+-- The first fault among lines that stand after others: the first line to which a cause applies.
 abbrev pub fault_among : List Line → List Line → Option Fault
 fault_among before [] = None
 fault_among before (line ∷ more) =
@@ -269,7 +269,7 @@ pub record IsScript (script : Script) : Type 0 where
   pub some : 1 ≤ script.steps
   pub limit : script.steps ≤ 10000000
 
--- What is answered of a text: where it has no fault the script that it states, otherwise its first fault. Want of
+-- What is answered of a text: where it has no fault the script that it states, otherwise its first fault. Out of
 -- memory may come in place of either.
 abbrev pub Reads : List ℕ → Result Script ScriptFault → Type 0
 Reads bytes (Ok script) = (first_fault bytes ≡ None) × IsScriptOf bytes script × IsScript script

@@ -27,7 +27,7 @@ pub record Sends (old : Option (List ℕ)) (held : List ℕ) (new : Option (List
   pub appended : Appends old new sent
   pub split : held ++ added ≡ sent ++ kept
 
--- A front of what was held back and what was added was sent.
+-- A prefix of what was held back and what was added was sent.
 pub record SendsFront (old : Option (List ℕ)) (held : List ℕ) (new : Option (List ℕ)) (added : List ℕ) : Type 0 where
   pub sent : List ℕ
   pub rest : List ℕ
@@ -41,7 +41,7 @@ Tells k step old held new kept added (Err (fault.Stopped n address why)) = (n �
 Tells k step old held new kept added (Err fault.Failed) = SendsFront old held new added
 Tells k step old held new kept added (Err fault.Memory) = SendsFront old held new added
 
--- All that was held back is sent, or a front of it.
+-- All that was held back is sent, or a prefix of it.
 abbrev pub Flushes : Option (List ℕ) → List ℕ → Option (List ℕ) → List ℕ → Result (Unit {0}) TraceFault → Type 0
 Flushes old held new kept (Ok done) = Appends old new held × (kept ≡ [])
 Flushes old held new kept (Err (fault.Stopped step address why)) = ⊥

@@ -131,7 +131,7 @@ abbrev pub deepest : Log → ℕ → ℕ
 deepest log zero = 0
 deepest log (suc n) = max (deepest log n) (log n).after.depth
 
--- The line behind the last of n steps.
+-- The line after the last of n steps.
 abbrev pub end_line : Map → Log → ℕ → List ℕ
 end_line m log n = line (codes "end" ∷ decimal n ∷ codes "deepest" ∷ decimal (deepest log n) ∷ state_fields m (registers_after log n))
 

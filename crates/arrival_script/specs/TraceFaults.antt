@@ -1,3 +1,4 @@
+-- Why a trace isn't whole.
 use Rattle.edge_io.specs.declared.faults.PutFault.{PutFault}
 use Rattle.edge_io.specs.declared.faults.PutFault.TheVariants as put
 use Rattle.arrival_script.specs.declared.traces.TraceFault.{TraceFault}

@@ -8,7 +8,7 @@ use Rattle.map_file.specs.declared.maps.Map.{Map}
 use Rattle.map_file.specs.declared.maps.MapEvent.{MapEvent}
 use Rattle.map_file.specs.declared.maps.MapSample.{MapSample}
 
--- A field behind a space.
+-- A field after a space.
 abbrev pub spaced : List ℕ → List ℕ
 spaced field = codes " " ++ field
 

@@ -200,7 +200,7 @@ fn steps_entry(text: &[u8]) -> Result<Entry, Cause>
     }
 }
 
-/// What a line says by itself, by its word and the text behind that, or the cause that applies to it, whichever
+/// What a line says by itself, by its word and the text after that, or the cause that applies to it, whichever
 /// lines stand before.
 pub(crate) fn read_entry(word: &[u8], text: &[u8]) -> Result<Entry, Cause>
     ensures { EntryOf (line_of (word.now ∷ fields_of text.now)) result }

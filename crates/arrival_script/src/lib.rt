@@ -1,8 +1,9 @@
-//! Scripts of arriving sources, and the trace of a firmware image under a script.
+//! Scripts of what comes from outside the chip, and the trace of a firmware image under a script.
 //!
 //! Contracts see a script's text as its lines' fields: which script it states, and the first line with a fault and its
-//! cause. A trace's text is that of the definition's log of the image's run under the script's arrivals, and a sink
-//! has taken it whole, up to the chip's stop, or a front of it. The tool stands on this crate.
+//! cause. A trace's text is that of the definition's log of the image's run under the script's arrivals, changes of pins
+//! and late interrupts, and a sink has taken it whole, up to the chip's stop, or a prefix of it. The tool stands on this
+//! crate.
 #![tactic(auto)]
 
 mod drafts;

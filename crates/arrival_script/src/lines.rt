@@ -189,7 +189,7 @@ fn write_state(text: &mut String, regs: &Regs, state: &MapState) -> Result<(), A
     write!(text, " {name}={value}")
 }
 
-// The states, each behind a space.
+// The states, each after a space.
 fn write_states(text: &mut String, regs: &Regs, states: &[MapState]) -> Result<(), AllocError>
     requires { AllByRecursion IsState states.now }
     ensures { OnOk result (string_bytes text.new ≡ string_bytes text.old

@@ -44,8 +44,8 @@ pub enum Cause {
     /// The line stands after the `steps` line.
     AfterSteps,
     /// Its first field is none of the five words, or it has a wrong number of fields, or a `fill` or `pin` line hasn't
-    /// a byte of two hexadecimal digits or a `late` line none of its three words, or a `fill` line stands behind another
-    /// line, or a `late` line behind another than `fill`.
+    /// a byte of two hexadecimal digits or a `late` line none of its three words, or a `fill` line stands after another
+    /// line, or a `late` line after another than `fill`.
     BadLine,
     /// The second field of `at`, `pin` or `steps` isn't one to eight decimal digits, or that of `steps` isn't from 1 to
     /// 10,000,000.
