@@ -1,0 +1,143 @@
+-- What is promised of `compile SRC HEX MAP`.
+use Rattle.std.specs.Prelude.{◌≡◌, ℕ, ◌<◌, List, length, Option, Some, None, Result, Ok, Err, String, string_bytes, codes, ◌⊎◌}
+use Rattle.edge_io.specs.declared.outside.TheConstants.{LONGEST_FILE}
+use Rattle.edge_io.specs.Files.{Held, FilesSeen, SameOthers, BothTold, IfTold, KeepsFiles}
+use Rattle.edge_io.specs.Sinks.{Appends}
+use Rattle.edge_io.specs.Counts.{Rose}
+use Rattle.map_file.specs.declared.maps.Map.{Map}
+use Rattle.map_file.specs.MapText.{map_text}
+use Rattle.firmware_promises.specs.Firmware.{IsFirmware}
+use Rattle.counter_code.specs.declared.counters.Counter.{Counter}
+use Rattle.counter_code.specs.Counters.{Spells, program_of}
+use Rattle.frp_tool.specs.declared.halts.Halt.{Halt}
+use Rattle.frp_tool.specs.declared.halts.Halt.TheVariants as halt
+use Rattle.frp_tool.specs.Lines.{named_line, summary}
+use Rattle.frp_tool.specs.Outsides.{Outside}
+use Rattle.frp_tool.specs.Endings.{Ends, DueOrYielded}
+use Rattle.frp_tool.specs.SourceTexts.{OfSource, SourceSpells, SourceFault, source_status, source_line, SourceCause}
+use Rattle.frp_tool.specs.Writes.{Has, SameButTwo}
+
+-- The names that `compile` is given.
+pub record CompileRequest : Type 0 where
+  pub source : List ℕ
+  pub hex : List ℕ
+  pub map : List ℕ
+
+-- What `compile` makes of the program that a counter stands for: the bytes of HEX, and a map, whose text is written to MAP.
+-- The bytes and the text are firmware for the program.
+pub record Firmware : Type 0 where
+  pub counter : Counter
+  pub hex : List ℕ
+  pub map : Map
+  pub is_firmware : IsFirmware (program_of counter) hex (map_text map)
+
+-- What a `compile` comes to: the source gives no program; its HEX wasn't written; its map wasn't written; all was done.
+pub data CompileVerdict : Type 0 where
+  NoProgram : SourceFault → CompileVerdict
+  HexFailed : Counter → CompileVerdict
+  MapFailed : Firmware → CompileVerdict
+  Done : Firmware → CompileVerdict
+
+-- The status that is due.
+abbrev pub compile_status : CompileVerdict → ℕ
+compile_status (NoProgram fault) = source_status fault
+compile_status (HexFailed c) = 5
+compile_status (MapFailed f) = 5
+compile_status (Done f) = 0
+
+-- The line that is to be put.
+abbrev pub compile_line : CompileRequest → CompileVerdict → List ℕ
+compile_line r (NoProgram fault) = source_line r.source fault
+compile_line r (HexFailed c) = named_line (codes "write failed: ") r.hex
+compile_line r (MapFailed f) = named_line (codes "write failed: ") r.map
+compile_line r (Done f) = summary f.map (program_of f.counter)
+
+-- Why a verdict comes.
+abbrev pub CompileCause : CompileRequest → FilesSeen → FilesSeen → CompileVerdict → Type 0
+CompileCause r before after (NoProgram fault) = SourceCause r.source before after fault
+CompileCause r before after (HexFailed c) = SourceSpells r.source before c × Rose before.write_faults after.write_faults
+CompileCause r before after (MapFailed f) = SourceSpells r.source before f.counter × Rose before.write_faults after.write_faults
+CompileCause r before after (Done f) = SourceSpells r.source before f.counter
+
+-- HEX holds its bytes of the firmware, and MAP the text of the map.
+abbrev pub HexIsWhole : CompileRequest → Held → Firmware → Type 0
+HexIsWhole r held f = Has held r.hex f.hex
+
+abbrev pub MapIsWhole : CompileRequest → Held → Firmware → Type 0
+MapIsWhole r held f = Has held r.map (map_text f.map)
+
+-- Each file but HEX and MAP is as it was.
+abbrev pub OthersAsBefore : CompileRequest → Held → Held → Type 0
+OthersAsBefore r old new = SameButTwo old new r.hex r.map
+
+-- The files that a verdict leaves. After a failed write the file of that name holds anything.
+abbrev pub CompileLeft : CompileRequest → FilesSeen → FilesSeen → CompileVerdict → Type 0
+CompileLeft r before after (NoProgram fault) = KeepsFiles before after
+CompileLeft r before after (HexFailed c) = BothTold before after (λ old new. SameOthers old new r.hex)
+CompileLeft r before after (MapFailed f) = BothTold before after (λ old new. HexIsWhole r new f × OthersAsBefore r old new)
+CompileLeft r before after (Done f) = BothTold before after (λ old new. HexIsWhole r new f × MapIsWhole r new f × OthersAsBefore r old new)
+
+-- A verdict comes, and leaves these files.
+abbrev pub CompileComes : CompileRequest → FilesSeen → FilesSeen → CompileVerdict → Type 0
+CompileComes r before after v = CompileCause r before after v × CompileLeft r before after v
+
+-- Memory ran out before there was a verdict: no file has changed, or HEX is whole and no other has.
+abbrev pub CompileCut : CompileRequest → FilesSeen → FilesSeen → Type 0
+CompileCut r before after =
+    KeepsFiles before after
+    ⊎ ((f : Firmware) × SourceSpells r.source before f.counter × BothTold before after (λ old new. HexIsWhole r new f × SameOthers old new r.hex))
+
+-- What the work of a `compile` comes to before its line is put: a verdict, of which `Done` alone is no halt; or memory ran
+-- out, before there was a verdict or behind it.
+abbrev pub CompileWorks : CompileRequest → FilesSeen → FilesSeen → Result (Option String) Halt → Type 0
+CompileWorks r before after (Ok (Some line)) = (f : Firmware) × CompileComes r before after (Done f) × (string_bytes line ≡ compile_line r (Done f))
+CompileWorks r before after (Ok None) = ⊥
+CompileWorks r before after (Err (halt.Said due line)) = (v : CompileVerdict) × CompileComes r before after v × (due ≡ compile_status v) × (string_bytes line ≡ compile_line r v)
+CompileWorks r before after (Err halt.PutFailed) = ⊥
+CompileWorks r before after (Err halt.Memory) = CompileCut r before after ⊎ ((v : CompileVerdict) × CompileComes r before after v)
+
+-- How a call of `compile` ends: memory ran out before there was a verdict, and nothing was put; or there is a verdict, with
+-- its cause, the files that it leaves, its status and its line.
+abbrev pub Compiles : CompileRequest → Outside → Outside → ℕ → Type 0
+Compiles r before after status =
+    ((status ≡ 6) × (before.out.taken ≡ after.out.taken) × CompileCut r before.files after.files)
+    ⊎ ((v : CompileVerdict) × CompileCause r before.files after.files v × CompileLeft r before.files after.files v × Ends before.out after.out (compile_status v) (compile_line r v) status)
+
+-- With 0, where files and the bytes put are told, the source spells a program of the first form; HEX and MAP hold bytes that
+-- are firmware for it, those of MAP being the text of a map; all other files are as before; and the summary of that map was
+-- put.
+abbrev pub CompileDone : CompileRequest → Outside → Outside → Type 0
+CompileDone r before after = (c : Counter) × SourceSpells r.source before.files c
+    × (hex : List ℕ) × (m : Map) × IsFirmware (program_of c) hex (map_text m)
+    × BothTold before.files after.files (λ old new. Has new r.hex hex × Has new r.map (map_text m) × OthersAsBefore r old new)
+    × Appends before.out.taken after.out.taken (summary m (program_of c))
+
+-- 1 comes only where the source is too long or spells no program of the first form, where files are told.
+abbrev pub CompileRefuses : CompileRequest → Outside → Type 0
+CompileRefuses r before = OfSource r.source before.files (λ text. (LONGEST_FILE < length text) ⊎ ((c : Counter) → Spells text c → ⊥))
+
+-- 3 comes exactly where the source isn't held, where files are told.
+abbrev pub CompileMisses : CompileRequest → Outside → ℕ → Type 0
+CompileMisses r before status =
+    (status ≡ 3 → IfTold before.files (λ held. held r.source ≡ None)) × ((held : Held) → before.files.told ≡ Some held → held r.source ≡ None → DueOrYielded 3 status)
+
+-- Where files are told, the source spells a program of the first form, and no fault is counted, the status is 0 or 6.
+abbrev pub CompileCompletes : CompileRequest → Outside → Outside → ℕ → Type 0
+CompileCompletes r before after status = (held : Held) (text : List ℕ) (c : Counter) → before.files.told ≡ Some held → held r.source ≡ Some text → Spells text c
+    → (Rose before.files.read_faults after.files.read_faults → ⊥) → (Rose before.files.write_faults after.files.write_faults → ⊥) → (Rose before.out.put_faults after.out.put_faults → ⊥)
+    → (status ≡ 0) ⊎ (status ≡ 6)
+
+-- What is promised of a `compile`: how it ends, and what follows for each status. With every status no file but HEX and MAP
+-- has changed.
+pub record CompilePromises (r : CompileRequest) (before after : Outside) (status : ℕ) : Type 0 where
+  pub ends : Compiles r before after status
+  pub done : status ≡ 0 → CompileDone r before after
+  pub one : status ≡ 1 → CompileRefuses r before
+  pub three : CompileMisses r before status
+  pub files : BothTold before.files after.files (OthersAsBefore r)
+  pub complete : CompileCompletes r before after status
+
+-- The bytes of HEX and MAP and the line that `compile` makes for the program that a counter stands for: firmware for it, the
+-- second the text of a map, and the summary of that map.
+abbrev pub AreTexts : Counter → List ℕ → List ℕ → List ℕ → Type 0
+AreTexts c hex text line = (m : Map) × (text ≡ map_text m) × IsFirmware (program_of c) hex (map_text m) × (line ≡ summary m (program_of c))
