@@ -1,3 +1,4 @@
+// Tests of files and sinks, in memory and at the edge.
 use edge_io::{
     DiskFiles, Files, LONGEST_FILE, MemFiles, MemSink, OutSink, PutFault, ReadFault, Sink,
     SureFiles, SureSink, WriteFault,
@@ -30,6 +31,28 @@ impl Print for Closed {
 
     fn write_all(&self, _bytes: &[u8]) -> io::Result<()> {
         Err(io::Error::from(io::ErrorKind::BrokenPipe))
+    }
+}
+
+/// A standard output that takes just these bytes, in one call.
+#[derive(Clone, Copy)]
+struct Expecting<'a>(&'a [u8]);
+
+impl Print for Expecting<'_> {
+    fn print<D: Display + Drop>(&self, _value: D) -> io::Result<()> {
+        self.write_all(b"")
+    }
+
+    fn println<D: Display + Drop>(&self, _value: D) -> io::Result<()> {
+        self.write_all(b"")
+    }
+
+    fn write_all(&self, bytes: &[u8]) -> io::Result<()> {
+        if bytes == self.0 {
+            Ok(())
+        } else {
+            Err(io::Error::from(io::ErrorKind::InvalidInput))
+        }
     }
 }
 
@@ -108,6 +131,16 @@ fn standard_output_takes_bytes(rt: HostRuntime) -> Result<(), Fail> {
     Ok(())
 }
 
+#[test]
+fn standard_output_is_given_all_bytes(rt: HostRuntime) -> Result<(), Fail> {
+    let alloc = rt.alloc();
+    let text = b"good day\n";
+    OutSink::new(&Expecting(text)).put(alloc, text)?;
+    let other = OutSink::new(&Expecting(b"good")).put(alloc, text);
+    assert_eq!(rt; other, Err(PutFault::Failed));
+    Ok(())
+}
+
 /// Whether a file of the greatest length is read, and one byte more is too long.
 fn reads_the_longest<F: Files>(files: &mut F, alloc: Global, name: &str) -> Result<bool, Fail> {
     let mut bytes = vec![in alloc; 7u8; LONGEST_FILE]?;
@@ -135,6 +168,22 @@ fn disk_files_are_written_and_read(rt: HostRuntime) -> Result<(), Fail> {
         b"then".as_slice()
     );
     assert!(rt; reads_the_longest(&mut files, alloc, path.as_str())?);
+    fs::remove_file(&rt, path)?;
+    Ok(())
+}
+
+// A name behind a file can't be opened, which is no missing file.
+#[test]
+fn a_file_is_no_folder(rt: HostRuntime) -> Result<(), Fail> {
+    let alloc = rt.alloc();
+    let path = format!(in alloc; "/tmp/edge_io-file-{}", process::id(rt.process()))?;
+    let inside = format!(in alloc; "{}/x", path.as_str())?;
+    let mut files = DiskFiles::new(&rt);
+    files.write(alloc, path.as_str(), b"here")?;
+    let told = faults(&mut files, alloc, "/no such folder/file", inside.as_str());
+    assert_eq!(rt; told, FAULTS);
+    let kept = files.read(alloc, path.as_str())?;
+    assert_eq!(rt; kept.as_slice(), b"here".as_slice());
     fs::remove_file(&rt, path)?;
     Ok(())
 }
