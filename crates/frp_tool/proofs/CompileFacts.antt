@@ -1,86 +1,68 @@
 -- The steps of `compile`, put together.
-use Rattle.std.proofs.Common.{◌≡◌, ℕ, ◌<◌, ◌≤◌, List, Option, Some, None, Ok, Err, length, inl, inr, arith, refl, ◌∙◌, subst}
-use Rattle.edge_io.specs.declared.outside.TheConstants.{LONGEST_FILE}
-use Rattle.edge_io.specs.Files.{ReadGives, Held, SameFiles, BothTold, IfTold, KeepsFiles}
-use Rattle.edge_io.specs.declared.faults.ReadFault.{ReadFault}
-use Rattle.edge_io.specs.declared.faults.ReadFault.TheVariants as read
+use Rattle.std.proofs.Common.{◌≡◌, ◌≢◌, ℕ, ◌≤◌, List, Option, Some, None, Result, Ok, Err, String, string_bytes, inl, inr, arith, refl, ◌∙◌, ap, subst}
+use Rattle.std.specs.declared.alloc.Global.{Global}
+use Rattle.edge_io.specs.Files.{FilesSeen, SameFiles, SameOthers, Replaces, BothTold, KeepsFiles}
+use Rattle.edge_io.specs.Sinks.{SinkSeen}
 use Rattle.map_file.specs.MapText.{map_text}
-use Rattle.counter_code.specs.Counters.{Spells, program_of}
-use Rattle.frp_tool.specs.Lines.{summary}
-use Rattle.frp_tool.specs.Outsides.{outside}
-use Rattle.frp_tool.specs.Steps.{Ends, Stores}
-use Rattle.frp_tool.specs.Answers.{Request, Firmware, NoForm, HexFailed, MapFailed, Done, OfSource, Compiles, CompilesText}
+use Rattle.frp_tool.specs.declared.halts.Halt.{Halt}
+use Rattle.frp_tool.specs.declared.halts.Halt.TheVariants.{Said, PutFailed, Memory}
+use Rattle.frp_tool.specs.Outsides.{Outside}
+use Rattle.frp_tool.specs.Endings.{Ends, Gives, Finishes}
+use Rattle.frp_tool.specs.SourceTexts.{SourceSpells, SourceCause, source_status, source_line}
+use Rattle.frp_tool.specs.Writes.{Stores}
+use Rattle.frp_tool.specs.Compiles.{CompileRequest, Firmware, CompileVerdict, CompileComes, CompileLeft, NoProgram, HexFailed, MapFailed, Done, compile_status, compile_line, CompileWorks, Compiles}
+use Rattle.frp_tool.proofs.ToldFacts.{chain, keeps_trans}
 
-pub keeps_refl : (files : Option Held) → KeepsFiles files files
-keeps_refl None = tt
-keeps_refl (Some held) = λ name. refl
+-- The program wasn't read.
+pub unread_works : {A : Type 0} (Good : A → Type 0) (r : CompileRequest) (a b : FilesSeen) (e : Halt) → KeepsFiles a b → Gives Good (SourceCause r.source a b) source_status (source_line r.source) (Err e) → CompileWorks r a b (Err e)
+unread_works Good r a b (Said due line) keeps (fault, cause, is, said) = (NoProgram fault, (cause, keeps), is, said)
+unread_works Good r a b PutFailed keeps gives = gives
+unread_works Good r a b Memory keeps gives = inl (inl keeps)
 
--- A fact about the files before and after, where no file had changed before.
-behind : (f0 f1 f2 : Option Held) (P Q : Held → Held → Type 0) → ((old mid new : Held) → SameFiles old mid → P mid new → Q old new) → KeepsFiles f0 f1 → BothTold f1 f2 P → BothTold f0 f2 Q
-behind None None None P Q step keeps both = tt
-behind None None (Some new) P Q step keeps both = both
-behind None (Some mid) f2 P Q step keeps both = absurd keeps
-behind (Some old) None f2 P Q step keeps both = absurd keeps
-behind (Some old) (Some mid) None P Q step keeps both = both
-behind (Some old) (Some mid) (Some new) P Q step keeps both = step old mid new keeps both
+module _ (r : CompileRequest) (a b c : FilesSeen) (f : Firmware) (spells : SourceSpells r.source a f.counter) (keeps : KeepsFiles a b) (fewer : a.write_faults ≤ b.write_faults) where
+  -- HEX wasn't written.
+  pub hex_works : (bytes : List ℕ) (e : Halt) → Stores b c r.hex bytes (Err e) → CompileWorks r a c (Err e)
+  hex_works bytes (Said due line) ((rose, left), is, said) =
+      (HexFailed f.counter, ((spells, omega (arith, rose)), chain a b c _ _ _ (λ old mid new h k other differs. k other differs ∙ h other) keeps left), is, said)
+  hex_works bytes PutFailed stores = stores
+  hex_works bytes Memory (inl kept) = inl (inl (keeps_trans a b c keeps kept))
+  hex_works bytes Memory (inr (rose, left)) =
+      inr (HexFailed f.counter, ((spells, omega (arith, rose)), chain a b c _ _ _ (λ old mid new h k other differs. k other differs ∙ h other) keeps left))
 
-pub keeps_trans : (f0 f1 f2 : Option Held) → KeepsFiles f0 f1 → KeepsFiles f1 f2 → KeepsFiles f0 f2
-keeps_trans f0 f1 f2 a b = behind f0 f1 f2 SameFiles SameFiles (λ old mid new h k name. k name ∙ h name) a b
+  module _ (d : FilesSeen) (hex : List ℕ) (is_hex : hex ≡ f.hex) (stored : Stores b c r.hex hex (Ok tt)) (fewer' : b.write_faults ≤ c.write_faults) (apart : r.hex ≢ r.map) where
+    hex_left : BothTold a c (λ old new. Replaces old new r.hex hex)
+    hex_left = chain a b c SameFiles _ _ (λ old mid new h k. (k.0, λ other differs. k.1 other differs ∙ h other)) keeps stored
 
-pub stores_same : (hex map : List ℕ) (h h' m m' line line' : List ℕ) (files files' : Option Held) (writes writes' : ℕ) (taken taken' : Option (List ℕ)) (puts puts' status : ℕ)
-    → h ≡ h' → m ≡ m' → line ≡ line' → Stores hex h map m line files files' writes writes' taken taken' puts puts' status → Stores hex h' map m' line' files files' writes writes' taken taken' puts puts' status
-stores_same hex map h h' m m' line line' files files' writes writes' taken taken' puts puts' status a b c stores =
-    subst (λ (x : List ℕ). Stores hex h' map m' x files files' writes writes' taken taken' puts puts' status) c
-    (subst (λ (x : List ℕ). Stores hex h' map x line files files' writes writes' taken taken' puts puts' status) b
-    (subst (λ (x : List ℕ). Stores hex x map m line files files' writes writes' taken taken' puts puts' status) a stores))
+    map_left : BothTold c d (λ old new. SameOthers old new r.map) → CompileLeft r a d (MapFailed f)
+    map_left left = chain a c d _ _ _ (λ old mid new h k. (k r.hex apart ∙ h.0 ∙ ap (λ bytes. Some bytes) is_hex, λ name one two. k name two ∙ h.1 name one)) hex_left left
 
--- What is said of the text that was read is said of the source.
-of_source : (r : Request) (files : Option Held) (reads writes puts : ℕ) (taken : Option (List ℕ)) (text : List ℕ) (P : List ℕ → Type 0)
-    → IfTold files (λ held. held r.source ≡ Some text) → P text → OfSource r (outside files reads writes taken puts) P
-of_source r None reads writes puts taken text P told p = tt
-of_source r (Some held) reads writes puts taken text P told p = (text, told, p)
+    -- MAP wasn't written.
+    pub map_works : (bytes : List ℕ) (e : Halt) → Stores c d r.map bytes (Err e) → CompileWorks r a d (Err e)
+    map_works bytes (Said due line) ((rose, left), is, said) = (MapFailed f, ((spells, omega (arith, rose, fewer, fewer')), map_left left), is, said)
+    map_works bytes PutFailed stores = stores
+    map_works bytes Memory (inl kept) =
+        inl (inr (f, spells, chain a c d _ _ _ (λ old mid new h k. (k r.hex ∙ h.0 ∙ ap (λ bytes. Some bytes) is_hex, λ other differs. k other ∙ h.1 other differs)) hex_left kept))
+    map_works bytes Memory (inr (rose, left)) = inr (MapFailed f, ((spells, omega (arith, rose, fewer, fewer')), map_left left))
 
-module _ (r : Request) (files0 files1 files2 : Option Held) (reads reads' writes0 writes1 writes2 : ℕ) (taken taken' : Option (List ℕ)) (puts puts' status : ℕ) (text : List ℕ) where
-  stored : IfTold files0 (λ held. held r.source ≡ Some text) → KeepsFiles files0 files1 → writes0 ≤ writes1 → (f : Firmware) → Spells text f.counter → (line : List ℕ) → line ≡ summary f.map (program_of f.counter)
-      → Stores r.hex f.hex r.map (map_text f.map) line files1 files2 writes1 writes2 taken taken' puts puts' status
-      → Compiles r (outside files0 reads writes0 taken puts) (outside files2 reads' writes2 taken' puts') status
-  stored told keeps fewer f spells line is (inl (six, same, inl kept)) = inl (six, same, inl (keeps_trans files0 files1 files2 keeps kept))
-  stored told keeps fewer f spells line is (inl (six, same, inr part)) =
-      inl (six, same, inr (f, of_source r files0 reads writes0 puts taken text _ told spells, behind files0 files1 files2 _ _ (λ old mid new h k. (k.0, λ name other. k.1 name other ∙ h name)) keeps part))
-  stored told keeps fewer f spells line is (inr (inl (rose, part, ends))) =
-      inr (HexFailed f.counter, (of_source r files0 reads writes0 puts taken text _ told spells, omega (arith, rose)), behind files0 files1 files2 _ _ (λ old mid new h k name other. k name other ∙ h name) keeps part, ends)
-  stored told keeps fewer f spells line is (inr (inr (inl (rose, part, ends)))) =
-      inr (MapFailed f, (of_source r files0 reads writes0 puts taken text _ told spells, omega (arith, rose)), behind files0 files1 files2 _ _ (λ old mid new h k. (k.0, λ name one two. k.1 name one two ∙ h name)) keeps part, ends)
-  stored told keeps fewer f spells line is (inr (inr (inr (part, ends)))) =
-      inr (
-        Done f,
-        of_source r files0 reads writes0 puts taken text _ told spells,
-        behind files0 files1 files2 _ _ (λ old mid new h k. (k.0, k.1, λ name one two. k.2 name one two ∙ h name)) keeps part,
-        subst (λ (x : List ℕ). Ends taken taken' puts puts' 0 x status) is ends,
-      )
+    -- Both were written.
+    pub done_works : (bytes : List ℕ) (line : String Global) → bytes ≡ map_text f.map → Stores c d r.map bytes (Ok tt) → string_bytes line ≡ compile_line r (Done f) → CompileWorks r a d (Ok (Some line))
+    done_works bytes line is_map stores said =
+        (f, (spells, chain a c d _ _ _ (λ old mid new h k. (k.1 r.hex apart ∙ h.0 ∙ ap (λ bytes. Some bytes) is_hex, k.0 ∙ ap (λ bytes. Some bytes) is_map, λ name one two. k.1 name two ∙ h.1 name one)) hex_left stores), said)
 
-  pub compiled : IfTold files0 (λ held. held r.source ≡ Some text) → length text ≤ LONGEST_FILE → KeepsFiles files0 files1 → writes0 ≤ writes1
-      → CompilesText text r.hex r.map files1 files2 writes1 writes2 taken taken' puts puts' status
-      → Compiles r (outside files0 reads writes0 taken puts) (outside files2 reads' writes2 taken' puts') status
-  compiled told short keeps fewer (inl (none, kept, ends)) = inr (NoForm, of_source r files0 reads writes0 puts taken text _ told (short, none), keeps_trans files0 files1 files2 keeps kept, ends)
-  compiled told short keeps fewer (inr (inl (six, same, kept))) = inl (six, same, inl (keeps_trans files0 files1 files2 keeps kept))
-  compiled told short keeps fewer (inr (inr (f, spells, stores))) = stored told keeps fewer f spells _ refl stores
+-- What is made of a verdict.
+module _ (r : CompileRequest) (before : Outside) (files : FilesSeen) (out : SinkSeen) (status : ℕ) where
+  abbrev left : Outside
+  left = record { files = files; out = out }
 
--- What a read that failed says of the source.
-pub missing_from : (files : Option Held) (name source : List ℕ) (fault : ReadFault) → name ≡ source → fault ≡ read.Missing → ReadGives files name (Err fault) → IfTold files (λ held. held source ≡ None)
-missing_from files name source fault same is gives =
-    subst (λ (n : List ℕ). ReadGives files n (Err read.Missing)) same (subst (λ (f : ReadFault). ReadGives files name (Err f)) is gives)
+  verdict_ends : (v : CompileVerdict) (due : ℕ) (line : List ℕ) → CompileComes r before.files files v → due ≡ compile_status v → line ≡ compile_line r v → Ends before.out out due line status → Compiles r before left status
+  verdict_ends v due line (cause, is_left) is said ends =
+      inr (v, cause, is_left, subst (λ (text : List ℕ). Ends before.out out (compile_status v) text status) said (subst (λ (n : ℕ). Ends before.out out n line status) is ends))
 
-pub failed_from : (files : Option Held) (name source : List ℕ) (fault : ReadFault) → name ≡ source → fault ≡ read.Failed → ReadGives files name (Err fault)
-    → IfTold files (λ held. (text : List ℕ) × (held source ≡ Some text) × (length text ≤ LONGEST_FILE))
-failed_from files name source fault same is gives =
-    subst (λ (n : List ℕ). ReadGives files n (Err read.Failed)) same (subst (λ (f : ReadFault). ReadGives files name (Err f)) is gives)
-
-pub long_from : (files : Option Held) (name source : List ℕ) (fault : ReadFault) → name ≡ source → fault ≡ read.TooLong → ReadGives files name (Err fault)
-    → IfTold files (λ held. (text : List ℕ) × (held source ≡ Some text) × (LONGEST_FILE < length text))
-long_from files name source fault same is gives =
-    subst (λ (n : List ℕ). ReadGives files n (Err read.TooLong)) same (subst (λ (f : ReadFault). ReadGives files name (Err f)) is gives)
-
-pub text_from : (files : Option Held) (name source text text' : List ℕ) → name ≡ source → text ≡ text' → ReadGives files name (Ok text) → IfTold files (λ held. held source ≡ Some text')
-text_from files name source text text' same is gives =
-    subst (λ (n : List ℕ). ReadGives files n (Ok text')) same (subst (λ (t : List ℕ). ReadGives files name (Ok t)) is gives)
+  -- What is made of the work of a `compile` ends it.
+  pub compile_ends : (work : Result (Option (String Global)) Halt) → CompileWorks r before.files files work → Finishes before.out out work status → Compiles r before left status
+  compile_ends (Ok (Some line)) (f, comes, said) ends = verdict_ends (Done f) 0 (string_bytes line) comes refl said ends
+  compile_ends (Ok None) works ends = absurd works
+  compile_ends (Err (Said due line)) (v, comes, is, said) ends = verdict_ends v due (string_bytes line) comes is said ends
+  compile_ends (Err PutFailed) works ends = absurd works
+  compile_ends (Err Memory) (inl cut) (six, same) = inl (six, (λ k. (same k).taken), cut)
+  compile_ends (Err Memory) (inr (v, (cause, is_left))) (six, same) = inr (v, cause, is_left, inr (inr (six, λ k. (same k).taken)))

@@ -1,8 +1,10 @@
 pub mod CompileFacts
+pub mod CompileLaws
+pub mod PromiseLaws
 pub mod ReadingFacts
 pub mod RunEndingFacts
 pub mod RunLaws
 pub mod RunStepFacts
 pub mod SourceFacts
-pub mod StatusLaws
 pub mod SummaryFacts
+pub mod ToldFacts

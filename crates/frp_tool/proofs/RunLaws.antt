@@ -1,9 +1,9 @@
 -- What each status of a `run` says, from how its call ends.
-use Rattle.std.proofs.Common.{◌≡◌, ℕ, ◌<◌, List, [], ◌∷◌, ◌++◌, Option, Some, None, length, ◌⊎◌, inl, inr, ⊎_elim, arith, refl, sym, ◌∙◌, subst}
+use Rattle.std.proofs.Common.{◌≡◌, ℕ, ◌<◌, ◌≤◌, List, [], ◌∷◌, ◌++◌, Option, Some, None, length, ◌⊎◌, inl, inr, ⊎_elim, arith, refl, sym, ◌∙◌, subst}
 use Rattle.std.specs.List.{AllByRecursion}
 use Rattle.edge_io.specs.declared.outside.TheConstants.{LONGEST_FILE}
-use Rattle.edge_io.specs.Files.{Held, IfTold}
-use Rattle.edge_io.specs.Sinks.{Appends}
+use Rattle.edge_io.specs.Files.{Held, FilesSeen, IfTold}
+use Rattle.edge_io.specs.Sinks.{SinkSeen, Appends}
 use Rattle.edge_io.specs.Counts.{Rose}
 use Rattle.pic_machine.specs.declared.steps.Why.{Why}
 use Rattle.hex_file.proofs.ImageLaws.{image_determined}
@@ -14,45 +14,45 @@ use Rattle.arrival_script.specs.Scripts.{IsScriptOf}
 use Rattle.frp_tool.specs.declared.inputs.Inputs.{Inputs}
 use Rattle.frp_tool.specs.declared.inputs.Parts.{Parts}
 use Rattle.frp_tool.specs.Outsides.{Outside}
-use Rattle.frp_tool.specs.Steps.{DueOrYielded}
-use Rattle.frp_tool.specs.RunFaults.{RunRequest, NotHeld, NotRead, TooLong, IsReadable, IsLong, IsNext, AreInputs, AreParts, ArePartsOf, RunFault, FileUnread, BadHex, BadMap, BadScript, fault_status, IsFirstFault}
-use Rattle.frp_tool.specs.Runs.{RunVerdict, NoRun, Stops, Ended, run_status, run_text, RunCause, RunEnds, Runs, StopsAt, GoesToEnd}
-use Rattle.frp_tool.specs.RunStatuses.{RunDone, FindsLong, FindsFault, FindsStop, RunPromises}
-use Rattle.frp_tool.proofs.RunStepFacts.{both_told}
+use Rattle.frp_tool.specs.Endings.{DueOrYielded}
+use Rattle.frp_tool.specs.Reads.{NotHeld, NotRead, TooLong, IsReadable, IsLong}
+use Rattle.frp_tool.specs.RunFaults.{RunRequest, IsNext, AreInputs, AreParts, ArePartsOf, RunFault, FileUnread, BadHex, BadMap, BadScript, fault_status, IsFirstFault}
+use Rattle.frp_tool.specs.Runs.{RunVerdict, NoRun, Stops, Ended, run_status, run_text, RunCause, RunEnds, Runs, StopsAt, GoesToEnd, RunDone, FindsLong, FindsFault, FindsStop, RunRefuses, RunPromises}
+use Rattle.frp_tool.proofs.ToldFacts.{if_both, at_told}
 
-due : (taken taken' : Option (List ℕ)) (puts puts' want : ℕ) (text : List ℕ) (status : ℕ) → RunEnds taken taken' puts puts' want text status → DueOrYielded want status
-due taken taken' puts puts' want text status (inl h) = inl h.0
-due taken taken' puts puts' want text status (inr (inl h)) = inr (inl h.0)
-due taken taken' puts puts' want text status (inr (inr h)) = inr (inr h.0)
+due : (before after : SinkSeen) (want : ℕ) (text : List ℕ) (status : ℕ) → RunEnds before after want text status → DueOrYielded want status
+due before after want text status (inl h) = inl h.0
+due before after want text status (inr (inl h)) = inr (inl h.0)
+due before after want text status (inr (inr h)) = inr (inr h.0)
 
 -- A status that isn't 5 or 6 is the one that was due, and then the whole text was put.
-settled : (taken taken' : Option (List ℕ)) (puts puts' want : ℕ) (text : List ℕ) (status : ℕ) → RunEnds taken taken' puts puts' want text status → status < 5 → (status ≡ want) × Appends taken taken' text
-settled taken taken' puts puts' want text status (inl h) small = h
-settled taken taken' puts puts' want text status (inr (inl h)) small = absurd (omega (arith, h.0))
-settled taken taken' puts puts' want text status (inr (inr h)) small = absurd (omega (arith, h.0))
+settled : (before after : SinkSeen) (want : ℕ) (text : List ℕ) (status : ℕ) → RunEnds before after want text status → status < 5 → (status ≡ want) × Appends before.taken after.taken text
+settled before after want text status (inl h) small = h
+settled before after want text status (inr (inl h)) small = absurd (omega (arith, h.0))
+settled before after want text status (inr (inr h)) small = absurd (omega (arith, h.0))
 
 -- A verdict that comes, with its status and its text.
 abbrev Settles : RunRequest → Outside → Outside → ℕ → RunVerdict → Type 0
-Settles r before after status v = RunCause r before after v × (status ≡ run_status v) × Appends before.taken after.taken (run_text v)
+Settles r before after status v = RunCause r before.files after.files v × (status ≡ run_status v) × Appends before.out.taken after.out.taken (run_text v)
 
 verdict : (r : RunRequest) (before after : Outside) (status : ℕ) → Runs r before after status → status < 5 → (v : RunVerdict) × Settles r before after status v
 verdict r before after status (keeps, inl h) small = absurd (omega (arith, h.0))
-verdict r before after status (keeps, inr (v, (cause, ends))) small = let s = settled _ _ _ _ _ _ _ ends small in (v, (cause, s.0, s.1))
+verdict r before after status (keeps, inr (v, (cause, ends))) small = let s = settled _ _ _ _ _ ends small in (v, (cause, s.0, s.1))
 
 -- Of a request's names one that is next is held, where all are; and of two that are next one is held, or both are one.
-named : (P : List ℕ → Type 0) (names front behind : List (List ℕ)) (name : List ℕ) → names ≡ front ++ name ∷ behind → AllByRecursion P names → P name
-named P [] [] behind name order all = let no : [] ≡ name ∷ behind = order in cc
-named P [] (x ∷ front) behind name order all = let no : [] ≡ x ∷ (front ++ name ∷ behind) = order in cc
-named P (n ∷ names) [] behind name order all = let same : n ≡ name = cc in subst P same all.0
-named P (n ∷ names) (x ∷ front) behind name order all = let rest : names ≡ front ++ name ∷ behind = cc in named P names front behind name rest all.1
+named : (P : List ℕ → Type 0) (names earlier later : List (List ℕ)) (name : List ℕ) → names ≡ earlier ++ name ∷ later → AllByRecursion P names → P name
+named P [] [] later name order all = let no : [] ≡ name ∷ later = order in cc
+named P [] (x ∷ earlier) later name order all = let no : [] ≡ x ∷ (earlier ++ name ∷ later) = order in cc
+named P (n ∷ names) [] later name order all = let same : n ≡ name = cc in subst P same all.0
+named P (n ∷ names) (x ∷ earlier) later name order all = let rest : names ≡ earlier ++ name ∷ later = cc in named P names earlier later name rest all.1
 
-one_next : (P : List ℕ → Type 0) (front front' behind behind' : List (List ℕ)) (name name' : List ℕ) → front ++ name ∷ behind ≡ front' ++ name' ∷ behind'
-    → AllByRecursion P front → AllByRecursion P front' → (name ≡ name') ⊎ P name ⊎ P name'
-one_next P [] [] behind behind' name name' same all all' = let e : name ≡ name' = cc in inl e
-one_next P [] (x ∷ front') behind behind' name name' same all all' = let e : x ≡ name = cc in inr (inl (subst P e all'.0))
-one_next P (x ∷ front) [] behind behind' name name' same all all' = let e : x ≡ name' = cc in inr (inr (subst P e all.0))
-one_next P (x ∷ front) (x' ∷ front') behind behind' name name' same all all' =
-    let rest : front ++ name ∷ behind ≡ front' ++ name' ∷ behind' = cc in one_next P front front' behind behind' name name' rest all.1 all'.1
+one_next : (P : List ℕ → Type 0) (earlier earlier' later later' : List (List ℕ)) (name name' : List ℕ) → earlier ++ name ∷ later ≡ earlier' ++ name' ∷ later'
+    → AllByRecursion P earlier → AllByRecursion P earlier' → (name ≡ name') ⊎ P name ⊎ P name'
+one_next P [] [] later later' name name' same all all' = let e : name ≡ name' = cc in inl e
+one_next P [] (x ∷ earlier') later later' name name' same all all' = let e : x ≡ name = cc in inr (inl (subst P e all'.0))
+one_next P (x ∷ earlier) [] later later' name name' same all all' = let e : x ≡ name' = cc in inr (inr (subst P e all.0))
+one_next P (x ∷ earlier) (x' ∷ earlier') later later' name name' same all all' =
+    let rest : earlier ++ name ∷ later ≡ earlier' ++ name' ∷ later' = cc in one_next P earlier earlier' later later' name name' rest all.1 all'.1
 
 -- What a name has under it excludes the others.
 not_readable : (held : Held) (name : List ℕ) → held name ≡ None → IsReadable held name → ⊥
@@ -68,18 +68,28 @@ long_readable held name is long =
     let same : long.0 ≡ is.0 = cc in
     let more : LONGEST_FILE < length is.0 = subst (λ (text : List ℕ). LONGEST_FILE < length text) same long.2 in omega (arith, is.2)
 
--- Of the files of a request, where they are told.
-at_told : (files : Option Held) (held : Held) (P : Held → Type 0) → files ≡ Some held → IfTold files P → P held
-at_told files held P told p = subst (λ (f : Option Held). IfTold f P) told p
+-- The bytes of the three files, where the files that are held are told.
+abbrev IsHeldInput : List ℕ → Held → List ℕ → Type 0
+IsHeldInput name held text = (held name ≡ Some text) × (length text ≤ LONGEST_FILE)
 
-all_readable : (r : RunRequest) (held : Held) (i : Inputs) → AreInputs r (Some held) i → AllByRecursion (IsReadable held) (r.hex ∷ r.map ∷ r.script ∷ [])
+abbrev AreHeld : RunRequest → Held → Inputs → Type 0
+AreHeld r held i = IsHeldInput r.hex held i.hex × IsHeldInput r.map held i.map × IsHeldInput r.script held i.script
+
+abbrev AreHeldParts : RunRequest → Held → Parts → Type 0
+AreHeldParts r held p = (i : Inputs) × AreHeld r held i × AreParts i p
+
+all_readable : (r : RunRequest) (held : Held) (i : Inputs) → AreHeld r held i → AllByRecursion (IsReadable held) (r.hex ∷ r.map ∷ r.script ∷ [])
 all_readable r held i are = ((i.hex, are.0.0, are.0.1), ((i.map, are.1.0, are.1.1), ((i.script, are.2.0, are.2.1), tt)))
 
-inputs_at : (r : RunRequest) (files : Option Held) (held : Held) (i : Inputs) → files ≡ Some held → AreInputs r files i → AreInputs r (Some held) i
-inputs_at r files held i told are = subst (λ (f : Option Held). AreInputs r f i) told are
+inputs_at : (r : RunRequest) (seen : FilesSeen) (held : Held) (i : Inputs) → seen.told ≡ Some held → AreInputs r seen i → AreHeld r held i
+inputs_at r seen held i told (hex, map, script) = (
+  (at_told seen held (λ h. h r.hex ≡ Some i.hex) told hex.0, hex.1),
+  (at_told seen held (λ h. h r.map ≡ Some i.map) told map.0, map.1),
+  (at_told seen held (λ h. h r.script ≡ Some i.script) told script.0, script.1),
+)
 
 -- The bytes and what they mean are determined.
-same_inputs : (r : RunRequest) (held : Held) (i j : Inputs) → AreInputs r (Some held) i → AreInputs r (Some held) j → i ≡ j
+same_inputs : (r : RunRequest) (held : Held) (i j : Inputs) → AreHeld r held i → AreHeld r held j → i ≡ j
 same_inputs r held i j a b =
     let h : held r.hex ≡ Some i.hex = a.0.0 in let h' : held r.hex ≡ Some j.hex = b.0.0 in let hex : i.hex ≡ j.hex = cc in
     let m : held r.map ≡ Some i.map = a.1.0 in let m' : held r.map ≡ Some j.map = b.1.0 in let map : i.map ≡ j.map = cc in
@@ -89,10 +99,12 @@ same_inputs r held i j a b =
 same_script : (text : List ℕ) (s t : Script) → IsScriptOf text s → IsScriptOf text t → s ≡ t
 same_script text s t a b =
     let fill : s.fill ≡ t.fill = a.fill ∙ sym b.fill in
+    let late : s.late ≡ t.late = a.late ∙ sym b.late in
     let arrivals : s.arrivals ≡ t.arrivals = a.arrivals ∙ sym b.arrivals in
+    let pins : s.pins ≡ t.pins = a.pins ∙ sym b.pins in
     let both : Some s.steps ≡ Some t.steps = sym a.steps ∙ b.steps in
     let steps : s.steps ≡ t.steps = cc in
-    λ k. record { fill = fill k; arrivals = arrivals k; steps = steps k }
+    λ k. record { fill = fill k; late = late k; arrivals = arrivals k; pins = pins k; steps = steps k }
 
 same_parts : (i : Inputs) (p q : Parts) → AreParts i p → AreParts i q → p ≡ q
 same_parts i p q a b =
@@ -101,7 +113,7 @@ same_parts i p q a b =
     let script : p.script ≡ q.script = same_script i.script p.script q.script a.script.1 b.script.1 in
     λ k. record { image = image k; map = map k; script = script k }
 
-same_parts_of : (r : RunRequest) (held : Held) (i : Inputs) (p q : Parts) → AreInputs r (Some held) i → AreParts i p → ArePartsOf r (Some held) q → q ≡ p
+same_parts_of : (r : RunRequest) (held : Held) (i : Inputs) (p q : Parts) → AreHeld r held i → AreParts i p → AreHeldParts r held q → q ≡ p
 same_parts_of r held i p q are parts (j, are', parts') = same_parts i q p (subst (λ (k : Inputs). AreParts k q) (same_inputs r held j i are' are) parts') parts
 
 no_fault : (i : Inputs) (p : Parts) (fault : RunFault) → AreParts i p → IsFirstFault i fault → ⊥
@@ -110,20 +122,8 @@ no_fault i p (BadHex fault) parts is = no_image_of_fault i.hex fault p.image is 
 no_fault i p (BadMap n) parts is = is.1.no_text (record { map = p.map; rules = parts.map; text = parts.text })
 no_fault i p (BadScript n cause) parts is = let none = parts.script.0 in let some = is.2 in cc
 
-no_faults : (r : RunRequest) (held : Held) (i j : Inputs) (p : Parts) (fault : RunFault) → AreInputs r (Some held) i → AreParts i p → AreInputs r (Some held) j → IsFirstFault j fault → ⊥
+no_faults : (r : RunRequest) (held : Held) (i j : Inputs) (p : Parts) (fault : RunFault) → AreHeld r held i → AreParts i p → AreHeld r held j → IsFirstFault j fault → ⊥
 no_faults r held i j p fault are parts are' is = no_fault i p fault parts (subst (λ (k : Inputs). IsFirstFault k fault) (same_inputs r held j i are' are) is)
-
--- Of one request at most.
-one_request : (r0 r : RunRequest) → Some r0 ≡ Some r → r0 ≡ r
-one_request r0 r e = cc
-
-no_request : (r : RunRequest) → None ≡ Some r → ⊥
-no_request r e = cc
-
--- What is said of 3.
-abbrev Three : RunRequest → Outside → Outside → ℕ → Type 0
-Three x before after status = (status ≡ 3 → IfTold before.files (λ held. (name : List ℕ) × IsNext x held name × (held name ≡ None)))
-    × ((held : Held) (name : List ℕ) → before.files ≡ Some held → IsNext x held name → held name ≡ None → (Rose before.read_faults after.read_faults → ⊥) → DueOrYielded 3 status)
 
 module _ (r : RunRequest) (before after : Outside) (status : ℕ) where
   no_run_ends : (fault : RunFault) → status ≡ fault_status fault → status ≡ 0 → ⊥
@@ -134,15 +134,15 @@ module _ (r : RunRequest) (before after : Outside) (status : ℕ) where
   no_run_ends (BadMap n) is e = omega arith
   no_run_ends (BadScript n cause) is e = omega arith
 
-  done : (v : RunVerdict) → Settles r before after status v → status ≡ 0 → RunDone (Some r) before after
+  done : (v : RunVerdict) → Settles r before after status v → status ≡ 0 → RunDone r before after
   done (NoRun fault) (cause, is, put) e = absurd (no_run_ends fault is e)
   done (Stops p step address why) (cause, is, put) e = absurd (omega arith)
-  done (Ended p) (cause, is, put) e = (r, refl, p, cause.0, cause.1, put)
+  done (Ended p) (cause, is, put) e = (p, cause.0, cause.1, put)
 
-  one : (v : RunVerdict) → Settles r before after status v → status ≡ 1 → FindsLong r before ⊎ FindsFault r before ⊎ FindsStop r before
+  one : (v : RunVerdict) → Settles r before after status v → status ≡ 1 → RunRefuses r before
   one (NoRun (FileUnread name NotHeld)) (cause, is, put) e = absurd (omega arith)
   one (NoRun (FileUnread name NotRead)) (cause, is, put) e = absurd (omega arith)
-  one (NoRun (FileUnread name TooLong)) (cause, is, put) e = inl (both_told before.files _ _ _ (λ held next long. (name, next, long)) cause.0 cause.1)
+  one (NoRun (FileUnread name TooLong)) (cause, is, put) e = inl (if_both before.files _ _ _ (λ held next long. (name, next, long)) cause.0 cause.1)
   one (NoRun (BadHex fault)) ((i, are, first), is, put) e = inr (inl (i, are, BadHex fault, first))
   one (NoRun (BadMap n)) ((i, are, first), is, put) e = inr (inl (i, are, BadMap n, first))
   one (NoRun (BadScript n why)) ((i, are, first), is, put) e = inr (inl (i, are, BadScript n why, first))
@@ -150,7 +150,7 @@ module _ (r : RunRequest) (before after : Outside) (status : ℕ) where
   one (Ended p) (cause, is, put) e = absurd (omega arith)
 
   three : (v : RunVerdict) → Settles r before after status v → status ≡ 3 → IfTold before.files (λ held. (name : List ℕ) × IsNext r held name × (held name ≡ None))
-  three (NoRun (FileUnread name NotHeld)) (cause, is, put) e = both_told before.files _ _ _ (λ held next none. (name, next, none)) cause.0 cause.1
+  three (NoRun (FileUnread name NotHeld)) (cause, is, put) e = if_both before.files _ _ _ (λ held next none. (name, next, none)) cause.0 cause.1
   three (NoRun (FileUnread name NotRead)) (cause, is, put) e = absurd (omega arith)
   three (NoRun (FileUnread name TooLong)) (cause, is, put) e = absurd (omega arith)
   three (NoRun (BadHex fault)) (cause, is, put) e = absurd (omega arith)
@@ -159,7 +159,7 @@ module _ (r : RunRequest) (before after : Outside) (status : ℕ) where
   three (Stops p step address why) (cause, is, put) e = absurd (omega arith)
   three (Ended p) (cause, is, put) e = absurd (omega arith)
 
-  pub four : (v : RunVerdict) → Settles r before after status v → status ≡ 4 → Rose before.read_faults after.read_faults
+  pub four : (v : RunVerdict) → Settles r before after status v → status ≡ 4 → Rose before.files.read_faults after.files.read_faults
   four (NoRun (FileUnread name NotHeld)) (cause, is, put) e = absurd (omega arith)
   four (NoRun (FileUnread name NotRead)) (cause, is, put) e = cause.1.0
   four (NoRun (FileUnread name TooLong)) (cause, is, put) e = absurd (omega arith)
@@ -183,28 +183,28 @@ module _ (r : RunRequest) (before after : Outside) (status : ℕ) where
   pub run_not_two : Runs r before after status → status ≡ 2 → ⊥
   run_not_two h e = let v = verdict r before after status h (omega (arith, e)) in not_due v.0 (inl (sym v.1.1 ∙ e))
 
-  pub run_four : Runs r before after status → status ≡ 4 → Rose before.read_faults after.read_faults
+  pub run_four : Runs r before after status → status ≡ 4 → Rose before.files.read_faults after.files.read_faults
   run_four h e = let v = verdict r before after status h (omega (arith, e)) in four v.0 v.1 e
 
-  five : (v : RunVerdict) → RunEnds before.taken after.taken before.put_faults after.put_faults (run_status v) (run_text v) status → status ≡ 5 → Rose before.put_faults after.put_faults
+  five : (v : RunVerdict) → RunEnds before.out after.out (run_status v) (run_text v) status → status ≡ 5 → Rose before.out.put_faults after.out.put_faults
   five v (inl h) e = absurd (not_due v (inr (sym h.0 ∙ e)))
   five v (inr (inl h)) e = h.1
   five v (inr (inr h)) e = absurd (omega (arith, h.0))
 
-  pub run_five : Runs r before after status → status ≡ 5 → Rose before.put_faults after.put_faults
+  pub run_five : Runs r before after status → status ≡ 5 → Rose before.out.put_faults after.out.put_faults
   run_five (keeps, inl h) e = absurd (omega (arith, h.0))
   run_five (keeps, inr (v, (cause, ends))) e = five v ends e
 
-  pub run_done : Runs r before after status → status ≡ 0 → RunDone (Some r) before after
+  run_done : Runs r before after status → status ≡ 0 → RunDone r before after
   run_done h e = let v = verdict r before after status h (omega (arith, e)) in done v.0 v.1 e
 
   -- Where the name that is next isn't held, a file wasn't read: that one, or one before whose read failed.
-  module _ (held : Held) (told : before.files ≡ Some held) where
+  module _ (held : Held) (told : before.files.told ≡ Some held) where
     held_all : (name : List ℕ) → IsNext r held name → held name ≡ None → (i : Inputs) → AreInputs r before.files i → ⊥
     held_all name next none i are =
-        not_readable held name none (named (IsReadable held) _ next.front next.behind name next.order (all_readable r held i (inputs_at r before.files held i told are)))
+        not_readable held name none (named (IsReadable held) _ next.earlier next.later name next.order (all_readable r held i (inputs_at r before.files held i told are)))
 
-    missing : (name : List ℕ) → IsNext r held name → held name ≡ None → (Rose before.read_faults after.read_faults → ⊥) → (v : RunVerdict) → RunCause r before after v → run_status v ≡ 3
+    missing : (name : List ℕ) → IsNext r held name → held name ≡ None → (Rose before.files.read_faults after.files.read_faults → ⊥) → (v : RunVerdict) → RunCause r before.files after.files v → run_status v ≡ 3
     missing name next none reads (NoRun (FileUnread other NotHeld)) cause = refl
     missing name next none reads (NoRun (FileUnread other NotRead)) cause = absurd (reads cause.1.0)
     missing name next none reads (NoRun (FileUnread other TooLong)) cause =
@@ -213,7 +213,7 @@ module _ (r : RunRequest) (before after : Outside) (status : ℕ) where
         absurd (⊎_elim
         (λ (e : name ≡ other). not_long held name none (subst (IsLong held) (sym e) long))
         (λ rest. ⊎_elim (λ is. not_readable held name none is) (λ is. long_readable held other is long) rest)
-        (one_next (IsReadable held) next.front next'.front next.behind next'.behind name other (sym next.order ∙ next'.order) next.readable next'.readable))
+        (one_next (IsReadable held) next.earlier next'.earlier next.later next'.later name other (sym next.order ∙ next'.order) next.readable next'.readable))
     missing name next none reads (NoRun (BadHex fault)) (i, are, first) = absurd (held_all name next none i are)
     missing name next none reads (NoRun (BadMap n)) (i, are, first) = absurd (held_all name next none i are)
     missing name next none reads (NoRun (BadScript n why)) (i, are, first) = absurd (held_all name next none i are)
@@ -221,17 +221,17 @@ module _ (r : RunRequest) (before after : Outside) (status : ℕ) where
     missing name next none reads (Ended p) ((i, are, parts), ends) = absurd (held_all name next none i are)
 
     -- Where the three files mean what a run takes, the verdict is that of its run, unless a read failed.
-    completed : (i : Inputs) (p : Parts) → AreInputs r (Some held) i → AreParts i p → (Rose before.read_faults after.read_faults → ⊥) → (v : RunVerdict) → RunCause r before after v
+    completed : (i : Inputs) (p : Parts) → AreHeld r held i → AreParts i p → (Rose before.files.read_faults after.files.read_faults → ⊥) → (v : RunVerdict) → RunCause r before.files after.files v
         → ((run_status v ≡ 0) × GoesToEnd p) ⊎ ((run_status v ≡ 1) × (step : ℕ) × (address : ℕ) × (why : Why) × StopsAt p step address why)
     completed i p are parts reads (NoRun (FileUnread name NotHeld)) cause =
         let next : IsNext r held name = at_told before.files held (λ h. IsNext r h name) told cause.0 in
         let none : held name ≡ None = at_told before.files held (λ h. h name ≡ None) told cause.1 in
-        absurd (not_readable held name none (named (IsReadable held) _ next.front next.behind name next.order (all_readable r held i are)))
+        absurd (not_readable held name none (named (IsReadable held) _ next.earlier next.later name next.order (all_readable r held i are)))
     completed i p are parts reads (NoRun (FileUnread name NotRead)) cause = absurd (reads cause.1.0)
     completed i p are parts reads (NoRun (FileUnread name TooLong)) cause =
         let next : IsNext r held name = at_told before.files held (λ h. IsNext r h name) told cause.0 in
         let long : IsLong held name = at_told before.files held (λ h. IsLong h name) told cause.1 in
-        absurd (long_readable held name (named (IsReadable held) _ next.front next.behind name next.order (all_readable r held i are)) long)
+        absurd (long_readable held name (named (IsReadable held) _ next.earlier next.later name next.order (all_readable r held i are)) long)
     completed i p are parts reads (NoRun (BadHex fault)) (j, are', first) = absurd (no_faults r held i j p (BadHex fault) are parts (inputs_at r before.files held j told are') first)
     completed i p are parts reads (NoRun (BadMap n)) (j, are', first) = absurd (no_faults r held i j p (BadMap n) are parts (inputs_at r before.files held j told are') first)
     completed i p are parts reads (NoRun (BadScript n why)) (j, are', first) = absurd (no_faults r held i j p (BadScript n why) are parts (inputs_at r before.files held j told are') first)
@@ -240,47 +240,39 @@ module _ (r : RunRequest) (before after : Outside) (status : ℕ) where
     completed i p are parts reads (Ended q) ((j, are', parts'), ends) =
         inl (refl, subst GoesToEnd (same_parts_of r held i p q are parts (j, inputs_at r before.files held j told are', parts')) ends)
 
-    by_end : (p : Parts) (v : RunVerdict) → (Rose before.put_faults after.put_faults → ⊥)
+    by_end : (p : Parts) (v : RunVerdict) → (Rose before.out.put_faults after.out.put_faults → ⊥)
         → ((run_status v ≡ 0) × GoesToEnd p) ⊎ ((run_status v ≡ 1) × (step : ℕ) × (address : ℕ) × (why : Why) × StopsAt p step address why)
-        → RunEnds before.taken after.taken before.put_faults after.put_faults (run_status v) (run_text v) status
+        → RunEnds before.out after.out (run_status v) (run_text v) status
         → ((status ≡ 0) × GoesToEnd p) ⊎ ((status ≡ 1) × (step : ℕ) × (address : ℕ) × (why : Why) × StopsAt p step address why) ⊎ (status ≡ 6)
     by_end p v puts (inl whole) (inl h) = inl (h.0 ∙ whole.0, whole.1)
     by_end p v puts (inr stops) (inl h) = inr (inl (h.0 ∙ stops.0, stops.1, stops.2, stops.3, stops.4))
     by_end p v puts known (inr (inl h)) = absurd (puts h.1)
     by_end p v puts known (inr (inr h)) = inr (inr h.0)
 
-  run_one : Runs r before after status → status ≡ 1 → FindsLong r before ⊎ FindsFault r before ⊎ FindsStop r before
+  run_one : Runs r before after status → status ≡ 1 → RunRefuses r before
   run_one h e = let v = verdict r before after status h (omega (arith, e)) in one v.0 v.1 e
 
   run_three : Runs r before after status → status ≡ 3 → IfTold before.files (λ held. (name : List ℕ) × IsNext r held name × (held name ≡ None))
   run_three h e = let v = verdict r before after status h (omega (arith, e)) in three v.0 v.1 e
 
-  run_missing : Runs r before after status → (held : Held) (name : List ℕ) → before.files ≡ Some held → IsNext r held name → held name ≡ None → (Rose before.read_faults after.read_faults → ⊥) → DueOrYielded 3 status
+  run_missing : Runs r before after status → (held : Held) (name : List ℕ) → before.files.told ≡ Some held → IsNext r held name → held name ≡ None → (Rose before.files.read_faults after.files.read_faults → ⊥) → DueOrYielded 3 status
   run_missing (keeps, inl h) held name told next none reads = inr (inr h.0)
   run_missing (keeps, inr (v, (cause, ends))) held name told next none reads =
-      subst (λ (n : ℕ). DueOrYielded n status) (missing held told name next none reads v cause) (due _ _ _ _ _ _ _ ends)
+      subst (λ (n : ℕ). DueOrYielded n status) (missing held told name next none reads v cause) (due _ _ _ _ _ ends)
 
-  run_complete : Runs r before after status → (held : Held) (i : Inputs) (p : Parts) → before.files ≡ Some held → AreInputs r before.files i → AreParts i p
-      → (Rose before.read_faults after.read_faults → ⊥) → (Rose before.put_faults after.put_faults → ⊥)
+  run_complete : Runs r before after status → (held : Held) (i : Inputs) (p : Parts) → before.files.told ≡ Some held → AreInputs r before.files i → AreParts i p
+      → (Rose before.files.read_faults after.files.read_faults → ⊥) → (Rose before.out.put_faults after.out.put_faults → ⊥)
       → ((status ≡ 0) × GoesToEnd p) ⊎ ((status ≡ 1) × (step : ℕ) × (address : ℕ) × (why : Why) × StopsAt p step address why) ⊎ (status ≡ 6)
   run_complete (keeps, inl h) held i p told are parts reads puts = inr (inr h.0)
   run_complete (keeps, inr (v, (cause, ends))) held i p told are parts reads puts =
       by_end held told p v puts (completed held told i p (inputs_at r before.files held i told are) parts reads v cause) ends
 
-  pub run_promises : Runs r before after status → RunPromises (Some r) before after status
+  pub run_promises : Runs r before after status → RunPromises r before after status
   run_promises h = record {
-    one = λ r' e is. subst (λ (x : RunRequest). FindsLong x before ⊎ FindsFault x before ⊎ FindsStop x before) (one_request r r' e) (run_one h is);
-    three = λ r' e. subst (λ (x : RunRequest). Three x before after status) (one_request r r' e) ((λ is. run_three h is), λ held name told next none reads. run_missing h held name told next none reads);
-    files = λ r' e. h.0;
-    complete = λ r' held i p e told are parts reads puts.
-        run_complete h held i p told (subst (λ (x : RunRequest). AreInputs x before.files i) (sym (one_request r r' e)) are) parts reads puts;
+    ends = h;
+    done = run_done h;
+    one = run_one h;
+    three = ((λ is. run_three h is), λ held name told next none reads. run_missing h held name told next none reads);
+    files = h.0;
+    complete = run_complete h;
   }
-
--- Where the words form no `run` nothing is promised of one.
-pub none_promised : (before after : Outside) (status : ℕ) → RunPromises None before after status
-none_promised before after status = record {
-  one = λ r e. absurd (no_request r e);
-  three = λ r e. absurd (no_request r e);
-  files = λ r e. absurd (no_request r e);
-  complete = λ r held i p e. absurd (no_request r e);
-}

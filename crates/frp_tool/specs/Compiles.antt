@@ -1,5 +1,6 @@
 -- What is promised of `compile SRC HEX MAP`.
 use Rattle.std.specs.Prelude.{◌≡◌, ℕ, ◌<◌, List, length, Option, Some, None, Result, Ok, Err, String, string_bytes, codes, ◌⊎◌}
+use Rattle.std.specs.declared.alloc.Global.{Global}
 use Rattle.edge_io.specs.declared.outside.TheConstants.{LONGEST_FILE}
 use Rattle.edge_io.specs.Files.{Held, FilesSeen, SameOthers, BothTold, IfTold, KeepsFiles}
 use Rattle.edge_io.specs.Sinks.{Appends}
@@ -89,7 +90,7 @@ CompileCut r before after =
 
 -- What the work of a `compile` comes to before its line is put: a verdict, of which `Done` alone is no halt; or memory ran
 -- out, before there was a verdict or behind it.
-abbrev pub CompileWorks : CompileRequest → FilesSeen → FilesSeen → Result (Option String) Halt → Type 0
+abbrev pub CompileWorks : CompileRequest → FilesSeen → FilesSeen → Result (Option (String Global)) Halt → Type 0
 CompileWorks r before after (Ok (Some line)) = (f : Firmware) × CompileComes r before after (Done f) × (string_bytes line ≡ compile_line r (Done f))
 CompileWorks r before after (Ok None) = ⊥
 CompileWorks r before after (Err (halt.Said due line)) = (v : CompileVerdict) × CompileComes r before after v × (due ≡ compile_status v) × (string_bytes line ≡ compile_line r v)

@@ -1,5 +1,6 @@
 -- How a call ends: the line that was to be put, the status that was due, and what came of both.
 use Rattle.std.specs.Prelude.{◌≡◌, ℕ, List, Option, Some, None, Result, Ok, Err, String, string_bytes, ◌⊎◌}
+use Rattle.std.specs.declared.alloc.Global.{Global}
 use Rattle.edge_io.specs.Counts.{Rose}
 use Rattle.edge_io.specs.Sinks.{SinkSeen, Appends, AppendsPrefix}
 use Rattle.frp_tool.specs.declared.halts.Halt.{Halt}
@@ -26,11 +27,11 @@ Gives Good Bad status line (Err halt.PutFailed) = ⊥
 Gives Good Bad status line (Err halt.Memory) = Unit {0}
 
 -- The usage line is due, or memory ran out.
-abbrev pub Explained : Result (Option String) Halt → Type 0
-Explained = Gives (λ (nothing : Option String). ⊥) (λ (nothing : Unit {0}). Unit {0}) (λ nothing. 2) (λ nothing. usage)
+abbrev pub Explained : Result (Option (String Global)) Halt → Type 0
+Explained = Gives (λ (nothing : Option (String Global)). ⊥) (λ (nothing : Unit {0}). Unit {0}) (λ nothing. 2) (λ nothing. usage)
 
 -- What is made of a command's work: its last line is put, where there is one, and its status is given.
-abbrev pub Finishes : SinkSeen → SinkSeen → Result (Option String) Halt → ℕ → Type 0
+abbrev pub Finishes : SinkSeen → SinkSeen → Result (Option (String Global)) Halt → ℕ → Type 0
 Finishes before after (Ok (Some line)) status = Ends before after 0 (string_bytes line) status
 Finishes before after (Ok None) status = (status ≡ 0) × (before ≡ after)
 Finishes before after (Err (halt.Said due line)) status = Ends before after due (string_bytes line) status

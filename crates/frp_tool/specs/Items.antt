@@ -1,3 +1,4 @@
+-- What the items of a program of the first form are.
 use Rattle.std.specs.Prelude.{◌≡◌, ℕ, false, List, Option, Some, None, IsTrue}
 use Rattle.efrp_meaning.specs.Causal.{IsPriority}
 use Rattle.text_parts.specs.Names.{is_name}

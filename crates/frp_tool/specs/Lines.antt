@@ -1,3 +1,4 @@
+-- The lines that a command puts: the usage line, the lines that end in a name, the summary.
 use Rattle.std.specs.Prelude.{ℕ, List, ◌++◌, codes}
 use Rattle.std.specs.Fmt.{decimal}
 use Rattle.map_file.specs.declared.maps.Map.{Map}

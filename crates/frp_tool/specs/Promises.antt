@@ -1,12 +1,12 @@
 -- What `efrp` promises.
-use Rattle.std.specs.Prelude.{◌≡◌, ℕ, ◌<◌, Bool, true, false, List, Option, Some, None, ◌⊎◌}
+use Rattle.std.specs.Prelude.{◌≡◌, ℕ, ◌<◌, Bool, true, false, Option, Some, None, ◌⊎◌}
 use Rattle.edge_io.specs.Files.{KeepsFiles}
 use Rattle.edge_io.specs.Counts.{Rose}
 use Rattle.frp_tool.specs.declared.requests.Request.TheVariants.{Check, Compile, Run, Model, Big}
 use Rattle.frp_tool.specs.Lines.{usage}
 use Rattle.frp_tool.specs.Outsides.{Outside}
 use Rattle.frp_tool.specs.Endings.{Ends, DueOrYielded}
-use Rattle.frp_tool.specs.Requests.{Named, request_of}
+use Rattle.frp_tool.specs.Requests.{Named}
 use Rattle.frp_tool.specs.Compiles.{CompilePromises}
 use Rattle.frp_tool.specs.Runs.{RunPromises}
 
@@ -32,13 +32,13 @@ is_built (Some (Run hex map script)) = true
 is_built (Some (Model source events)) = false
 is_built (Some (Big number hex map)) = false
 
--- What a call promises: what its request does, and what a status says of every request. 0 comes only where the words form a
+-- What a call promises whose words are this request, or none: what its command does, and what a status says of every request. 0 comes only where the words form a
 -- command that is built, and 2 exactly where they form no such command. 4 comes only where a read fault was counted, and 5 only where a
 -- fault of a write or of a put was. With 1 to 4 no file has changed.
-pub record Promises (words : List (List ℕ)) (before after : Outside) (status : ℕ) : Type 0 where
-  pub request : PromisesOf (request_of words) before after status
-  pub zero : status ≡ 0 → is_built (request_of words) ≡ true
-  pub two : (status ≡ 2 → is_built (request_of words) ≡ false) × (is_built (request_of words) ≡ false → DueOrYielded 2 status)
+pub record Promises (request : Option Named) (before after : Outside) (status : ℕ) : Type 0 where
+  pub command : PromisesOf request before after status
+  pub zero : status ≡ 0 → is_built request ≡ true
+  pub two : (status ≡ 2 → is_built request ≡ false) × (is_built request ≡ false → DueOrYielded 2 status)
   pub four : status ≡ 4 → Rose before.files.read_faults after.files.read_faults
   pub five : status ≡ 5 → Rose before.files.write_faults after.files.write_faults ⊎ Rose before.out.put_faults after.out.put_faults
   pub files : 0 < status → status < 5 → KeepsFiles before.files after.files

@@ -3,8 +3,8 @@ use Rattle.std.specs.Prelude.{◌≢◌, ℕ, ◌^◌, Bool, false, ◌&&◌, no
 use Rattle.std.specs.Borrow.{Bor}
 use Rattle.std.specs.List.{list_all}
 use Rattle.std.specs.Str.{bytes_eq}
-use Rattle.frp_tree.specs.Names.{is_digit}
-use Rattle.frp_tree.specs.Tokens.{value_after}
+use Rattle.text_parts.specs.Bytes.{is_digit}
+use Rattle.text_parts.specs.Numbers.{value_after}
 use Rattle.frp_tool.specs.declared.requests.Request.{Request}
 use Rattle.frp_tool.specs.declared.requests.Request.TheVariants.{Check, Compile, Run, Model, Big}
 

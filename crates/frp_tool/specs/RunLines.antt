@@ -1,3 +1,4 @@
+-- The lines of faults in a HEX file, a map or a script, and of a stop.
 use Rattle.std.specs.Prelude.{ℕ, List, [], ◌++◌, codes}
 use Rattle.std.specs.Fmt.{decimal}
 use Rattle.text_parts.specs.Digits.{hex2, hex4}

@@ -1,5 +1,5 @@
 -- What a command leaves where it writes files.
-use Rattle.std.specs.Prelude.{◌≡◌, ◌≢◌, List, Some, Result, Ok, Err, codes, string_bytes, ◌⊎◌}
+use Rattle.std.specs.Prelude.{◌≡◌, ◌≢◌, ℕ, List, Some, Result, Ok, Err, codes, string_bytes, ◌⊎◌}
 use Rattle.edge_io.specs.Files.{Held, FilesSeen, SameOthers, Replaces, BothTold, KeepsFiles}
 use Rattle.edge_io.specs.Counts.{Rose}
 use Rattle.frp_tool.specs.declared.halts.Halt.{Halt}

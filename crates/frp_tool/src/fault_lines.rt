@@ -1,3 +1,4 @@
+// The lines of faults, as they are put.
 ghost use Rattle.std.specs.Prelude.{◌≡◌, ◌≢◌, IfOk, string_bytes};
 ghost use Rattle.frp_tool.specs.RunLines.{
   hex_line_at,
@@ -42,7 +43,7 @@ fn clash_line(alloc: Global, line: u32, address: u16) -> Result<String, AllocErr
     format!(in alloc; "refused: hex {line} clash {address:04X}\n")
 }
 
-/// The line of a HEX file's fault. Want of memory, which has none, is an `Err` too.
+/// The line of a HEX file's fault. Where memory ran out, which has no line, there is an `Err` too.
 pub fn hex_line(alloc: Global, fault: HexFault) -> Result<String, AllocError>
     ensures { IfOk result (λ line. (fault ≢ HexFault.Memory) × (string_bytes line ≡ hex_line fault)) }
 {

@@ -1,3 +1,4 @@
+// A program of the first form, read from tokens.
 ghost use Rattle.std.specs.Prelude.{◌≡◌, ◌≢◌, List, Option as Options, [], ◌∷◌, ◌++◌, IfOk, IfSome, IsTrue, ◌↔◌, MatchOption, codes};
 ghost use Rattle.std.specs.List.{AllByRecursion};
 ghost use Rattle.frp_tree.specs.declared.tokens.Token.{Token as Tokens};
@@ -61,7 +62,7 @@ fn setup_at(alloc: Global, setup: Option<SetupItem<'_>>) -> Result<Option<SetupA
     }
 }
 
-/// The program of the first form that tokens spell, or None where they spell none. An `Err` is want of memory.
+/// The program of the first form that tokens spell, or None where they spell none. An `Err` says that memory ran out.
 pub fn counter(alloc: Global, tokens: &[Token]) -> Result<Option<Counter>, AllocError>
     requires { AllByRecursion IsWellFormed tokens.now }
     ensures { IfOk result (λ found. MatchOption found

@@ -1,3 +1,4 @@
+// What the three files of a `run` mean.
 ghost use Rattle.std.specs.Prelude.{◌≡◌, ◌≤◌, Some, length};
 ghost use Rattle.edge_io.specs.declared.outside.TheConstants.{LONGEST_FILE};
 ghost use Rattle.edge_io.specs.Files.{KeepsFiles};
@@ -8,12 +9,8 @@ ghost use Rattle.map_file.specs.MapRules.{IsMap};
 ghost use Rattle.map_file.specs.MapText.{map_text};
 ghost use Rattle.arrival_script.specs.Scripts.{first_fault};
 ghost use Rattle.frp_tool.specs.RunLines.{hex_line, map_line, script_line};
+ghost use Rattle.frp_tool.specs.Endings.{Gives};
 ghost use Rattle.frp_tool.specs.RunFaults.{
-  Gives,
-  IsInput,
-  IsUnread,
-  unread_status,
-  unread_line,
   AreInputs,
   AreShort,
   AreParts,
@@ -26,13 +23,15 @@ ghost use Rattle.frp_tool.specs.RunFaults.{
 };
 
 use crate::fault_lines::{hex_line, map_line, script_line};
-use crate::says::{MISSING, READ_FAILED, REFUSED, line_with_name};
+use crate::halts::Halt;
+use crate::reads::input;
+use crate::says::REFUSED;
 use arrival_script::{Script, ScriptFault};
-use edge_io::{Files, ReadFault};
+use edge_io::Files;
 use frp_tree::{List as Bytes, Text};
 use hex_file::Image;
 use map_file::{Map, MapFault};
-use std::alloc::{AllocError, Global};
+use std::alloc::Global;
 
 /// The bytes of the three files that `run` reads.
 #[derive(Debug, Drop)]
@@ -50,41 +49,6 @@ pub struct Parts {
     pub script: Script,
 }
 
-/// Why a command ends before its work is done: with this status, when this line was put; or since memory ran out.
-#[derive(Debug, Drop)]
-pub enum Halt {
-    Said { status: u8, line: String },
-    Memory,
-}
-
-impl From<AllocError> for Halt {
-    ghost use Rattle.std.specs.Prelude.{◌≡◌};
-    ghost use Rattle.frp_tool.specs.declared.inputs.Halt.TheVariants.{Memory};
-
-    ghost from_gives = { λ _ halt. halt ≡ Memory };
-
-    fn from(_error: AllocError) -> Halt {
-        Halt::Memory
-    }
-}
-
-// The bytes of a file.
-fn input<F: Files>(alloc: Global, name: &Text, files: &mut F) -> Result<Bytes<u8>, Halt>
-    ensures gives { Gives (IsInput name.now (F.files files.old)) (IsUnread name.now (F.files files.old) (F.read_faults files.old) (F.read_faults files.new)) unread_status (unread_line name.now) result }
-    ensures unchanged { KeepsFiles (F.files files.old) (F.files files.new) }
-    ensures count { F.read_faults files.old ≤ F.read_faults files.new }
-{
-    let (status, front) = match files.read(alloc, name.as_str()) {
-        Ok(bytes) => return Ok(bytes),
-        Err(ReadFault::Missing) => (MISSING, "missing: "),
-        Err(ReadFault::Failed) => (READ_FAILED, "read failed: "),
-        Err(ReadFault::TooLong) => (REFUSED, "refused: long "),
-        Err(ReadFault::Memory) => return Err(Halt::Memory),
-    };
-    let line = line_with_name(alloc, front, name)?;
-    Err(Halt::Said { status, line })
-}
-
 // The bytes of the three files, read in order.
 fn read_inputs<F: Files>(
     alloc: Global,
@@ -93,9 +57,9 @@ fn read_inputs<F: Files>(
     script: &Text,
     files: &mut F,
 ) -> Result<Inputs, Halt>
-    ensures gives { Gives (AreInputs (record { hex = hex.now; map = map.now; script = script.now }) (F.files files.old))
-        (FaultCause (record { hex = hex.now; map = map.now; script = script.now }) (F.files files.old) (F.read_faults files.old) (F.read_faults files.new)) fault_status fault_line result }
-    ensures unchanged { KeepsFiles (F.files files.old) (F.files files.new) }
+    ensures gives { Gives (AreInputs (record { hex = hex.now; map = map.now; script = script.now }) (F.seen files.old))
+        (FaultCause (record { hex = hex.now; map = map.now; script = script.now }) (F.seen files.old) (F.seen files.new)) fault_status fault_line result }
+    ensures unchanged { KeepsFiles (F.seen files.old) (F.seen files.new) }
 {
     Ok(Inputs {
         hex: input(alloc, hex, files)?,
@@ -168,9 +132,9 @@ pub fn read_parts<F: Files>(
     script: &Text,
     files: &mut F,
 ) -> Result<Parts, Halt>
-    ensures gives { Gives (ArePartsOf (record { hex = hex.now; map = map.now; script = script.now }) (F.files files.old))
-        (FaultCause (record { hex = hex.now; map = map.now; script = script.now }) (F.files files.old) (F.read_faults files.old) (F.read_faults files.new)) fault_status fault_line result }
-    ensures unchanged { KeepsFiles (F.files files.old) (F.files files.new) }
+    ensures gives { Gives (ArePartsOf (record { hex = hex.now; map = map.now; script = script.now }) (F.seen files.old))
+        (FaultCause (record { hex = hex.now; map = map.now; script = script.now }) (F.seen files.old) (F.seen files.new)) fault_status fault_line result }
+    ensures unchanged { KeepsFiles (F.seen files.old) (F.seen files.new) }
 {
     let inputs = read_inputs(alloc, hex, map, script, files)?;
     parts_in(alloc, &inputs)

@@ -1,3 +1,4 @@
+// The parts of a program of the first form, each read from the tokens that it begins with.
 ghost use Rattle.std.specs.Prelude.{◌≡◌, ◌≢◌, ℕ, ◌<◌, false, List, ◌∷◌, ◌++◌, MatchOption};
 ghost use Rattle.pic_isa.specs.Names.{name_of_port, register_at};
 ghost use Rattle.frp_tree.specs.Names.{is_keyword};

@@ -2,19 +2,23 @@
 //!
 //! Contracts see the words of a command, the files before and after, the bytes that were put and the counts of
 //! faults. The program `efrp` is a thin `main` over the one public call. So far it has the commands `compile`, for
-//! programs of the first form, and `run`.
+//! programs of the first form, and `run`. A command is a case of `Request`, a file of `specs/` that says what is promised
+//! of it, and a function that does its work; `finish` puts its last line and makes its status.
 #![tactic(auto)]
 
-mod commands;
+mod compiles;
 mod fault_lines;
 mod first_form;
+mod halts;
 mod inputs;
 mod items;
 mod phrases;
+mod reads;
 mod requests;
 mod runs;
 mod says;
 mod source;
 mod tool;
+mod writes;
 
 pub use tool::efrp;

@@ -1,3 +1,4 @@
+// Single tokens: a word, a number, a mark, a name, a byte.
 ghost use Rattle.std.specs.Prelude.{◌≡◌, ◌≢◌, ℕ, ◌<◌, false, List, ◌∷◌, MatchOption};
 ghost use Rattle.frp_tree.specs.Names.{is_keyword};
 ghost use Rattle.frp_tree.specs.declared.tokens.Token.{Token as Tokens};

@@ -1,48 +1,39 @@
-ghost use Rattle.std.specs.Prelude.{◌≡◌, ◌≤◌};
+// The command `run`.
+ghost use Rattle.std.specs.Prelude.{◌≤◌};
 ghost use Rattle.hex_file.specs.Written.{IsWritable};
 ghost use Rattle.map_file.specs.MapRules.{IsMap};
 ghost use Rattle.arrival_script.specs.Scripts.{IsScript};
-ghost use Rattle.frp_tool.specs.Outsides.{outside};
-ghost use Rattle.frp_tool.specs.RunLines.{stop_line};
-ghost use Rattle.frp_tool.specs.Runs.{Runs, RunEnds, Traced};
-ghost use Rattle.frp_tool.specs.Steps.{Ends};
+ghost use Rattle.frp_tool.specs.Runs.{RunWorks, Traced};
 
 use crate::fault_lines::stop_line;
-use crate::inputs::{Halt, Parts, read_parts};
-use crate::says::{DONE, NO_MEMORY, OUTSIDE_FAILED, REFUSED, say};
+use crate::halts::Halt;
+use crate::inputs::{Parts, read_parts};
+use crate::says::REFUSED;
 use arrival_script::{TraceFault, trace};
 use edge_io::{Files, Sink};
 use frp_tree::Text;
-use pic_machine::Why;
-use std::alloc::{AllocError, Global};
+use std::alloc::Global;
 
-// Puts the line of a stop.
-fn say_stop<S: Sink>(alloc: Global, step: u32, address: u16, why: Why, out: &mut S) -> u8
-    ensures ends { Ends (S.taken out.old) (S.taken out.new) (S.put_faults out.old) (S.put_faults out.new) 1 (stop_line step address why) result }
-    ensures count { S.put_faults out.old ≤ S.put_faults out.new }
-{
-    match stop_line(alloc, step, address, why) {
-        Ok(line) => say(alloc, out, REFUSED, line.as_str()),
-        Err(AllocError) => NO_MEMORY,
-    }
-}
-
-// Puts the trace, and where the chip stops the line of the stop.
-fn put_trace<S: Sink>(alloc: Global, parts: &Parts, out: &mut S) -> u8
+// Puts the trace, up to where the chip stops. No line is left to be put where it doesn't.
+fn traced<S: Sink>(alloc: Global, parts: &Parts, out: &mut S) -> Result<Option<String>, Halt>
     requires writable { IsWritable parts.now.image }
     requires map { IsMap parts.now.map }
     requires script { IsScript parts.now.script }
-    ensures { Traced parts.now (S.taken out.old) (S.taken out.new) (S.put_faults out.old) (S.put_faults out.new) result }
+    ensures traced { Traced parts.now (S.seen out.old) (S.seen out.new) result }
+    ensures count { (S.seen out.old).put_faults ≤ (S.seen out.new).put_faults }
 {
     match trace(alloc, &parts.image, &parts.map, &parts.script, out) {
-        Ok(()) => DONE,
-        Err(TraceFault::Stopped { step, address, why }) => say_stop(alloc, step, address, why, out),
-        Err(TraceFault::Failed) => OUTSIDE_FAILED,
-        Err(TraceFault::Memory) => NO_MEMORY,
+        Ok(()) => Ok(None),
+        Err(TraceFault::Stopped { step, address, why }) => Err(Halt::Said {
+            status: REFUSED,
+            line: stop_line(alloc, step, address, why)?,
+        }),
+        Err(TraceFault::Failed) => Err(Halt::PutFailed),
+        Err(TraceFault::Memory) => Err(Halt::Memory),
     }
 }
 
-/// The command `run`: reads the HEX file, the map and the script, and puts the trace.
+/// The work of `run HEX MAP SCRIPT`: reads all three, and puts the trace.
 pub fn run<F: Files, S: Sink>(
     alloc: Global,
     hex: &Text,
@@ -50,14 +41,11 @@ pub fn run<F: Files, S: Sink>(
     script: &Text,
     files: &mut F,
     out: &mut S,
-) -> u8
-    ensures { Runs (record { hex = hex.now; map = map.now; script = script.now })
-        (outside (F.files files.old) (F.read_faults files.old) (F.write_faults files.old) (S.taken out.old) (S.put_faults out.old))
-        (outside (F.files files.new) (F.read_faults files.new) (F.write_faults files.new) (S.taken out.new) (S.put_faults out.new)) result }
+) -> Result<Option<String>, Halt>
+    ensures works { RunWorks (record { hex = hex.now; map = map.now; script = script.now })
+        (record { files = F.seen files.old; out = S.seen out.old }) (record { files = F.seen files.new; out = S.seen out.new }) result }
+    ensures count { (S.seen out.old).put_faults ≤ (S.seen out.new).put_faults }
 {
-    match read_parts(alloc, hex, map, script, files) {
-        Ok(parts) => put_trace(alloc, &parts, out),
-        Err(Halt::Said { status, line }) => say(alloc, out, status, line.as_str()),
-        Err(Halt::Memory) => NO_MEMORY,
-    }
+    let parts = read_parts(alloc, hex, map, script, files)?;
+    traced(alloc, &parts, out)
 }

@@ -1,7 +1,9 @@
-ghost use Rattle.std.specs.Prelude.{◌≡◌, ◌≤◌, IfOk, string_bytes};
+// The end of each command: its line is put and its status is made.
+ghost use Rattle.std.specs.Prelude.{◌≡◌, IfOk, string_bytes};
+ghost use Rattle.frp_tool.specs.Endings.{Ends, Finishes};
 ghost use Rattle.frp_tool.specs.Lines.{named_line};
-ghost use Rattle.frp_tool.specs.Steps.{Ends};
 
+use crate::halts::Halt;
 use edge_io::{PutFault, Sink};
 use frp_tree::Text;
 use std::alloc::{AllocError, Global};
@@ -21,10 +23,9 @@ pub const OUTSIDE_FAILED: u8 = 5;
 
 pub const NO_MEMORY: u8 = 6;
 
-/// Puts a line, and answers the status that was due, or that of the failure to put it.
-pub fn say<S: Sink>(alloc: Global, out: &mut S, due: u8, line: &str) -> u8
-    ensures ends { Ends (S.taken out.old) (S.taken out.new) (S.put_faults out.old) (S.put_faults out.new) due line.now result }
-    ensures count { S.put_faults out.old ≤ S.put_faults out.new }
+// Puts a line, and answers the status that was due, or that of the failure to put it.
+fn say<S: Sink>(alloc: Global, out: &mut S, due: u8, line: &str) -> u8
+    ensures { Ends (S.seen out.old) (S.seen out.new) due line.now result }
 {
     match out.put(alloc, line.as_bytes()) {
         Ok(()) => due,
@@ -33,21 +34,23 @@ pub fn say<S: Sink>(alloc: Global, out: &mut S, due: u8, line: &str) -> u8
     }
 }
 
-/// A line that ends in a name.
-pub fn line_with_name(alloc: Global, front: &str, name: &Text) -> Result<String, AllocError>
-    ensures { IfOk result (λ line. string_bytes line ≡ named_line front.now name.now) }
+/// Puts the last line of a command's work, where there is one, and answers its status.
+pub fn finish<S: Sink>(alloc: Global, out: &mut S, work: Result<Option<String>, Halt>) -> u8
+    ensures { Finishes (S.seen out.old) (S.seen out.new) work result }
 {
-    let name = name.as_str();
-    format!(in alloc; "{front}{name}\n")
+    match work {
+        Ok(Some(line)) => say(alloc, out, DONE, line.as_str()),
+        Ok(None) => DONE,
+        Err(Halt::Said { status, line }) => say(alloc, out, status, line.as_str()),
+        Err(Halt::PutFailed) => OUTSIDE_FAILED,
+        Err(Halt::Memory) => NO_MEMORY,
+    }
 }
 
-/// Puts a line that ends in a name.
-pub fn say_name<S: Sink>(alloc: Global, out: &mut S, due: u8, front: &str, name: &Text) -> u8
-    ensures ends { Ends (S.taken out.old) (S.taken out.new) (S.put_faults out.old) (S.put_faults out.new) due (named_line front.now name.now) result }
-    ensures count { S.put_faults out.old ≤ S.put_faults out.new }
+/// A line that ends in a name.
+pub fn line_with_name(alloc: Global, words: &str, name: &Text) -> Result<String, AllocError>
+    ensures { IfOk result (λ line. string_bytes line ≡ named_line words.now name.now) }
 {
-    match line_with_name(alloc, front, name) {
-        Ok(line) => say(alloc, out, due, line.as_str()),
-        Err(AllocError) => NO_MEMORY,
-    }
+    let name = name.as_str();
+    format!(in alloc; "{words}{name}\n")
 }

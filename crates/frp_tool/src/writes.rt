@@ -9,12 +9,7 @@ use frp_tree::Text;
 use std::alloc::Global;
 
 /// Leaves these bytes under the name.
-pub fn store<F: Files>(
-    alloc: Global,
-    name: &Text,
-    bytes: &[u8],
-    files: &mut F,
-) -> Result<(), Halt>
+pub fn store<F: Files>(alloc: Global, name: &Text, bytes: &[u8], files: &mut F) -> Result<(), Halt>
     ensures stores { Stores (F.seen files.old) (F.seen files.new) name.now bytes.now result }
     ensures read_count { (F.seen files.old).read_faults ≤ (F.seen files.new).read_faults }
     ensures write_count { (F.seen files.old).write_faults ≤ (F.seen files.new).write_faults }

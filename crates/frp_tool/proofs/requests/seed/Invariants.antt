@@ -1,7 +1,7 @@
 use Rattle.std.proofs.Common.{◌≡◌, ◌<◌, ◌^◌, drop}
 use Rattle.std.specs.List.{list_all}
-use Rattle.frp_tree.specs.Names.{is_digit}
-use Rattle.frp_tree.specs.Tokens.{value_after}
+use Rattle.text_parts.specs.Bytes.{is_digit}
+use Rattle.text_parts.specs.Numbers.{value_after}
 use Rattle.frp_tool.proofs.requests.seed.Given as goal
 
 -- what is left ends in the same value, and decides whether all are digits

@@ -3,7 +3,7 @@ use Rattle.map_file.specs.MapText.{map_text}
 use Rattle.firmware_promises.specs.Firmware.{IsFirmware}
 use Rattle.counter_code.specs.Counters.{program_of}
 use Rattle.frp_tool.proofs.SummaryFacts.{summary_same}
-use Rattle.frp_tool.proofs.tool.texts_of.Goals as goal
+use Rattle.frp_tool.proofs.compiles.texts_of.Goals as goal
 
 pub returns : goal.returns
 returns c =

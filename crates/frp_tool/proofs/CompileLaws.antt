@@ -1,0 +1,190 @@
+-- What each status of a `compile` says, from how its call ends.
+use Rattle.std.proofs.Common.{◌≡◌, ℕ, ◌<◌, List, Option, Some, None, length, ◌⊎◌, inl, inr, arith, refl, sym, ◌∙◌, subst}
+use Rattle.edge_io.specs.declared.outside.TheConstants.{LONGEST_FILE}
+use Rattle.edge_io.specs.Files.{Held, BothTold, IfTold, KeepsFiles}
+use Rattle.edge_io.specs.Sinks.{SinkSeen, Appends}
+use Rattle.edge_io.specs.Counts.{Rose}
+use Rattle.counter_code.specs.declared.counters.Counter.{Counter}
+use Rattle.counter_code.specs.Counters.{Spells}
+use Rattle.frp_tool.specs.Outsides.{Outside}
+use Rattle.frp_tool.specs.Endings.{Ends, DueOrYielded}
+use Rattle.frp_tool.specs.Reads.{NotHeld, NotRead, TooLong}
+use Rattle.frp_tool.specs.SourceTexts.{OfSource, SourceUnread, NoForm}
+use Rattle.frp_tool.specs.Compiles.{CompileRequest, CompileVerdict, NoProgram, HexFailed, MapFailed, Done, compile_status, compile_line, CompileCause, CompileLeft, CompileCut, OthersAsBefore, Compiles, CompileDone, CompileRefuses, CompilePromises}
+use Rattle.frp_tool.proofs.ToldFacts.{both_map, if_map, at_told}
+
+pub line_due : (before after : SinkSeen) (want : ℕ) (line : List ℕ) (status : ℕ) → Ends before after want line status → DueOrYielded want status
+line_due before after want line status (inl h) = inl h.0
+line_due before after want line status (inr (inl h)) = inr (inl h.0)
+line_due before after want line status (inr (inr h)) = inr (inr h.0)
+
+-- A status that isn't 5 or 6 is the one that was due, and then the line was put.
+pub line_settled : (before after : SinkSeen) (want : ℕ) (line : List ℕ) (status : ℕ) → Ends before after want line status → status < 5 → (status ≡ want) × Appends before.taken after.taken line
+line_settled before after want line status (inl h) small = h
+line_settled before after want line status (inr (inl h)) small = absurd (omega (arith, h.0))
+line_settled before after want line status (inr (inr h)) small = absurd (omega (arith, h.0))
+
+-- A text that spells a program isn't too long a file.
+short : (text : List ℕ) (c : Counter) → Spells text c → LONGEST_FILE < length text → ⊥
+short text c spells long = omega (arith, spells.1.0, long)
+
+module _ (r : CompileRequest) (before after : Outside) (status : ℕ) where
+  -- A verdict that comes, with its status and its line.
+  abbrev Settles : CompileVerdict → Type 0
+  Settles v = CompileCause r before.files after.files v × CompileLeft r before.files after.files v × (status ≡ compile_status v) × Appends before.out.taken after.out.taken (compile_line r v)
+
+  verdict : Compiles r before after status → status < 5 → (v : CompileVerdict) × Settles v
+  verdict (inl h) small = absurd (omega (arith, h.0))
+  verdict (inr (v, cause, left, ends)) small = let s = line_settled _ _ _ _ _ ends small in (v, (cause, left, s.0, s.1))
+
+  due_two : (v : CompileVerdict) → compile_status v ≡ 2 → ⊥
+  due_two (NoProgram (SourceUnread NotHeld)) e = omega (arith, e)
+  due_two (NoProgram (SourceUnread NotRead)) e = omega (arith, e)
+  due_two (NoProgram (SourceUnread TooLong)) e = omega (arith, e)
+  due_two (NoProgram NoForm) e = omega (arith, e)
+  due_two (HexFailed c) e = omega (arith, e)
+  due_two (MapFailed f) e = omega (arith, e)
+  due_two (Done f) e = omega (arith, e)
+
+  pub compile_not_two : Compiles r before after status → status ≡ 2 → ⊥
+  compile_not_two h e = let v = verdict h (omega (arith, e)) in due_two v.0 (sym v.1.2 ∙ e)
+
+  -- What is said of a file that is held is said of the text that it has.
+  of_held : (held : Held) (text : List ℕ) (P : List ℕ → Type 0) → before.files.told ≡ Some held → held r.source ≡ Some text → OfSource r.source before.files P → P text
+  of_held held text P told is of_source =
+      let at : (other : List ℕ) × (held r.source ≡ Some other) × P other = at_told before.files held (λ h. (other : List ℕ) × (h r.source ≡ Some other) × P other) told of_source in
+      let found : held r.source ≡ Some at.0 = at.1 in let same : at.0 ≡ text = cc in subst P same at.2
+
+  not_held : (held : Held) (P : List ℕ → Type 0) → before.files.told ≡ Some held → held r.source ≡ None → OfSource r.source before.files P → ⊥
+  not_held held P told none of_source =
+      let at : (text : List ℕ) × (held r.source ≡ Some text) × P text = at_told before.files held (λ h. (text : List ℕ) × (h r.source ≡ Some text) × P text) told of_source in
+      let found : held r.source ≡ Some at.0 = at.1 in cc
+
+  missing : (held : Held) (text : List ℕ) → before.files.told ≡ Some held → held r.source ≡ Some text → IfTold before.files (λ held. held r.source ≡ None) → ⊥
+  missing held text told is none = let at : held r.source ≡ None = at_told before.files held (λ h. h r.source ≡ None) told none in cc
+
+  of_map : (P Q : List ℕ → Type 0) → ((text : List ℕ) → P text → Q text) → OfSource r.source before.files P → OfSource r.source before.files Q
+  of_map P Q step of_source = if_map before.files _ _ (λ held at. (at.0, at.1, step at.0 at.2)) of_source
+
+  one_only : (v : CompileVerdict) → Settles v → status ≡ 1 → CompileRefuses r before
+  one_only (NoProgram (SourceUnread NotHeld)) (cause, left, is, put) e = absurd (omega (arith, is, e))
+  one_only (NoProgram (SourceUnread NotRead)) (cause, left, is, put) e = absurd (omega (arith, is, e))
+  one_only (NoProgram (SourceUnread TooLong)) (cause, left, is, put) e = of_map _ _ (λ text long. inl long) cause
+  one_only (NoProgram NoForm) (cause, left, is, put) e = of_map _ _ (λ text none. inr none.1) cause
+  one_only (HexFailed c) (cause, left, is, put) e = absurd (omega (arith, is, e))
+  one_only (MapFailed f) (cause, left, is, put) e = absurd (omega (arith, is, e))
+  one_only (Done f) (cause, left, is, put) e = absurd (omega (arith, is, e))
+
+  three_only : (v : CompileVerdict) → Settles v → status ≡ 3 → IfTold before.files (λ held. held r.source ≡ None)
+  three_only (NoProgram (SourceUnread NotHeld)) (cause, left, is, put) e = cause
+  three_only (NoProgram (SourceUnread NotRead)) (cause, left, is, put) e = absurd (omega (arith, is, e))
+  three_only (NoProgram (SourceUnread TooLong)) (cause, left, is, put) e = absurd (omega (arith, is, e))
+  three_only (NoProgram NoForm) (cause, left, is, put) e = absurd (omega (arith, is, e))
+  three_only (HexFailed c) (cause, left, is, put) e = absurd (omega (arith, is, e))
+  three_only (MapFailed f) (cause, left, is, put) e = absurd (omega (arith, is, e))
+  three_only (Done f) (cause, left, is, put) e = absurd (omega (arith, is, e))
+
+  four_only : (v : CompileVerdict) → Settles v → status ≡ 4 → Rose before.files.read_faults after.files.read_faults
+  four_only (NoProgram (SourceUnread NotHeld)) (cause, left, is, put) e = absurd (omega (arith, is, e))
+  four_only (NoProgram (SourceUnread NotRead)) (cause, left, is, put) e = cause.0
+  four_only (NoProgram (SourceUnread TooLong)) (cause, left, is, put) e = absurd (omega (arith, is, e))
+  four_only (NoProgram NoForm) (cause, left, is, put) e = absurd (omega (arith, is, e))
+  four_only (HexFailed c) (cause, left, is, put) e = absurd (omega (arith, is, e))
+  four_only (MapFailed f) (cause, left, is, put) e = absurd (omega (arith, is, e))
+  four_only (Done f) (cause, left, is, put) e = absurd (omega (arith, is, e))
+
+  pub compile_four : Compiles r before after status → status ≡ 4 → Rose before.files.read_faults after.files.read_faults
+  compile_four h e = let v = verdict h (omega (arith, e)) in four_only v.0 v.1 e
+
+  due_five : (v : CompileVerdict) → CompileCause r before.files after.files v → compile_status v ≡ 5 → Rose before.files.write_faults after.files.write_faults
+  due_five (NoProgram (SourceUnread NotHeld)) cause e = absurd (omega (arith, e))
+  due_five (NoProgram (SourceUnread NotRead)) cause e = absurd (omega (arith, e))
+  due_five (NoProgram (SourceUnread TooLong)) cause e = absurd (omega (arith, e))
+  due_five (NoProgram NoForm) cause e = absurd (omega (arith, e))
+  due_five (HexFailed c) cause e = cause.1
+  due_five (MapFailed f) cause e = cause.1
+  due_five (Done f) cause e = absurd (omega (arith, e))
+
+  pub compile_five : Compiles r before after status → status ≡ 5 → Rose before.files.write_faults after.files.write_faults ⊎ Rose before.out.put_faults after.out.put_faults
+  compile_five (inl h) e = absurd (omega (arith, h.0))
+  compile_five (inr (v, cause, left, inl h)) e = inl (due_five v cause (sym h.0 ∙ e))
+  compile_five (inr (v, cause, left, inr (inl h))) e = inr h.1
+  compile_five (inr (v, cause, left, inr (inr h))) e = absurd (omega (arith, h.0))
+
+  kept_by : (v : CompileVerdict) → CompileLeft r before.files after.files v → 0 < compile_status v → compile_status v < 5 → KeepsFiles before.files after.files
+  kept_by (NoProgram fault) left some small = left
+  kept_by (HexFailed c) left some small = absurd (omega (arith, small))
+  kept_by (MapFailed f) left some small = absurd (omega (arith, small))
+  kept_by (Done f) left some small = absurd (omega (arith, some))
+
+  pub compile_kept : Compiles r before after status → 0 < status → status < 5 → KeepsFiles before.files after.files
+  compile_kept h some small = let v = verdict h small in kept_by v.0 v.1.1 (omega (arith, some, v.1.2)) (omega (arith, small, v.1.2))
+
+  others : (v : CompileVerdict) → CompileLeft r before.files after.files v → BothTold before.files after.files (OthersAsBefore r)
+  others (NoProgram fault) left = both_map before.files after.files _ _ (λ old new same name one two. same name) left
+  others (HexFailed c) left = both_map before.files after.files _ _ (λ old new same name one two. same name one) left
+  others (MapFailed f) left = both_map before.files after.files _ _ (λ old new h. h.1) left
+  others (Done f) left = both_map before.files after.files _ _ (λ old new h. h.2) left
+
+  cut_others : CompileCut r before.files after.files → BothTold before.files after.files (OthersAsBefore r)
+  cut_others (inl keeps) = both_map before.files after.files _ _ (λ old new same name one two. same name) keeps
+  cut_others (inr part) = both_map before.files after.files _ _ (λ old new h name one two. h.1 name one) part.2
+
+  compile_others : Compiles r before after status → BothTold before.files after.files (OthersAsBefore r)
+  compile_others (inl h) = cut_others h.2
+  compile_others (inr (v, cause, left, ends)) = others v left
+
+  done_by : (v : CompileVerdict) → Settles v → status ≡ 0 → CompileDone r before after
+  done_by (NoProgram (SourceUnread NotHeld)) (cause, left, is, put) e = absurd (omega (arith, is, e))
+  done_by (NoProgram (SourceUnread NotRead)) (cause, left, is, put) e = absurd (omega (arith, is, e))
+  done_by (NoProgram (SourceUnread TooLong)) (cause, left, is, put) e = absurd (omega (arith, is, e))
+  done_by (NoProgram NoForm) (cause, left, is, put) e = absurd (omega (arith, is, e))
+  done_by (HexFailed c) (cause, left, is, put) e = absurd (omega (arith, is, e))
+  done_by (MapFailed f) (cause, left, is, put) e = absurd (omega (arith, is, e))
+  done_by (Done f) (cause, left, is, put) e = (f.counter, cause, f.hex, f.map, f.is_firmware, left, put)
+
+  -- Where the source isn't held, that is the verdict.
+  not_held_is_due : (held : Held) → before.files.told ≡ Some held → held r.source ≡ None → (v : CompileVerdict) → CompileCause r before.files after.files v → DueOrYielded (compile_status v) status → DueOrYielded 3 status
+  not_held_is_due held told none (NoProgram (SourceUnread NotHeld)) cause ends = ends
+  not_held_is_due held told none (NoProgram (SourceUnread NotRead)) cause ends = absurd (not_held held _ told none cause.1)
+  not_held_is_due held told none (NoProgram (SourceUnread TooLong)) cause ends = absurd (not_held held _ told none cause)
+  not_held_is_due held told none (NoProgram NoForm) cause ends = absurd (not_held held _ told none cause)
+  not_held_is_due held told none (HexFailed c) cause ends = absurd (not_held held _ told none cause.0)
+  not_held_is_due held told none (MapFailed f) cause ends = absurd (not_held held _ told none cause.0)
+  not_held_is_due held told none (Done f) cause ends = absurd (not_held held _ told none cause)
+
+  three_when : Compiles r before after status → (held : Held) → before.files.told ≡ Some held → held r.source ≡ None → DueOrYielded 3 status
+  three_when (inl h) held told none = inr (inr h.0)
+  three_when (inr (v, cause, left, ends)) held told none = not_held_is_due held told none v cause (line_due _ _ _ _ _ ends)
+
+  -- A verdict other than that all was done has another cause, where a program is held and no fault was counted.
+  all_done : (held : Held) (text : List ℕ) (c : Counter) → before.files.told ≡ Some held → held r.source ≡ Some text → Spells text c → (Rose before.files.read_faults after.files.read_faults → ⊥) → (Rose before.files.write_faults after.files.write_faults → ⊥)
+      → (v : CompileVerdict) → CompileCause r before.files after.files v → compile_status v ≡ 0
+  all_done held text c told is spells reads writes (NoProgram (SourceUnread NotHeld)) cause = absurd (missing held text told is cause)
+  all_done held text c told is spells reads writes (NoProgram (SourceUnread NotRead)) cause = absurd (reads cause.0)
+  all_done held text c told is spells reads writes (NoProgram (SourceUnread TooLong)) cause = absurd (short text c spells (of_held held text _ told is cause))
+  all_done held text c told is spells reads writes (NoProgram NoForm) cause = absurd ((of_held held text _ told is cause).1 c spells)
+  all_done held text c told is spells reads writes (HexFailed d) cause = absurd (writes cause.1)
+  all_done held text c told is spells reads writes (MapFailed d) cause = absurd (writes cause.1)
+  all_done held text c told is spells reads writes (Done d) cause = refl
+
+  by_end : (v : CompileVerdict) → compile_status v ≡ 0 → (Rose before.out.put_faults after.out.put_faults → ⊥) → Ends before.out after.out (compile_status v) (compile_line r v) status → (status ≡ 0) ⊎ (status ≡ 6)
+  by_end v zero puts (inl g) = inl (g.0 ∙ zero)
+  by_end v zero puts (inr (inl g)) = absurd (puts g.1)
+  by_end v zero puts (inr (inr g)) = inr g.0
+
+  completes : Compiles r before after status → (held : Held) (text : List ℕ) (c : Counter) → before.files.told ≡ Some held → held r.source ≡ Some text → Spells text c
+      → (Rose before.files.read_faults after.files.read_faults → ⊥) → (Rose before.files.write_faults after.files.write_faults → ⊥) → (Rose before.out.put_faults after.out.put_faults → ⊥)
+      → (status ≡ 0) ⊎ (status ≡ 6)
+  completes (inl h) held text c told is spells reads writes puts = inr h.0
+  completes (inr (v, cause, left, ends)) held text c told is spells reads writes puts = by_end v (all_done held text c told is spells reads writes v cause) puts ends
+
+  pub compile_promises : Compiles r before after status → CompilePromises r before after status
+  compile_promises h = record {
+    ends = h;
+    done = λ e. let v = verdict h (omega (arith, e)) in done_by v.0 v.1 e;
+    one = λ e. let v = verdict h (omega (arith, e)) in one_only v.0 v.1 e;
+    three = ((λ e. let v = verdict h (omega (arith, e)) in three_only v.0 v.1 e), three_when h);
+    files = compile_others h;
+    complete = completes h;
+  }
