@@ -1,5 +1,5 @@
 -- What each status of a `compile` says, from how its call ends.
-use Rattle.std.proofs.Common.{◌≡◌, ℕ, ◌<◌, List, Option, Some, None, length, ◌⊎◌, inl, inr, arith, refl, sym, ◌∙◌, subst}
+use Rattle.std.proofs.Common.{◌≡◌, ℕ, ◌<◌, List, Some, None, length, ◌⊎◌, inl, inr, arith, refl, sym, ◌∙◌, subst}
 use Rattle.edge_io.specs.declared.outside.TheConstants.{LONGEST_FILE}
 use Rattle.edge_io.specs.Files.{Held, BothTold, IfTold, KeepsFiles}
 use Rattle.edge_io.specs.Sinks.{SinkSeen, Appends}

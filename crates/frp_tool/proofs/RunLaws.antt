@@ -1,5 +1,5 @@
 -- What each status of a `run` says, from how its call ends.
-use Rattle.std.proofs.Common.{◌≡◌, ℕ, ◌<◌, ◌≤◌, List, [], ◌∷◌, ◌++◌, Option, Some, None, length, ◌⊎◌, inl, inr, ⊎_elim, arith, refl, sym, ◌∙◌, subst}
+use Rattle.std.proofs.Common.{◌≡◌, ℕ, ◌<◌, ◌≤◌, List, [], ◌∷◌, ◌++◌, Some, None, length, ◌⊎◌, inl, inr, ⊎_elim, arith, refl, sym, ◌∙◌, subst}
 use Rattle.std.specs.List.{AllByRecursion}
 use Rattle.edge_io.specs.declared.outside.TheConstants.{LONGEST_FILE}
 use Rattle.edge_io.specs.Files.{Held, FilesSeen, IfTold}
@@ -16,8 +16,8 @@ use Rattle.frp_tool.specs.declared.inputs.Parts.{Parts}
 use Rattle.frp_tool.specs.Outsides.{Outside}
 use Rattle.frp_tool.specs.Endings.{DueOrYielded}
 use Rattle.frp_tool.specs.Reads.{NotHeld, NotRead, TooLong, IsReadable, IsLong}
-use Rattle.frp_tool.specs.RunFaults.{RunRequest, IsNext, AreInputs, AreParts, ArePartsOf, RunFault, FileUnread, BadHex, BadMap, BadScript, fault_status, IsFirstFault}
-use Rattle.frp_tool.specs.Runs.{RunVerdict, NoRun, Stops, Ended, run_status, run_text, RunCause, RunEnds, Runs, StopsAt, GoesToEnd, RunDone, FindsLong, FindsFault, FindsStop, RunRefuses, RunPromises}
+use Rattle.frp_tool.specs.RunFaults.{RunRequest, IsNext, AreInputs, AreParts, RunFault, FileUnread, BadHex, BadMap, BadScript, fault_status, IsFirstFault}
+use Rattle.frp_tool.specs.Runs.{RunVerdict, NoRun, Stops, Ended, run_status, run_text, RunCause, RunEnds, Runs, StopsAt, GoesToEnd, RunDone, RunRefuses, RunPromises}
 use Rattle.frp_tool.proofs.ToldFacts.{if_both, at_told}
 
 due : (before after : SinkSeen) (want : ℕ) (text : List ℕ) (status : ℕ) → RunEnds before after want text status → DueOrYielded want status

@@ -1,5 +1,5 @@
 -- Why there is no run: what `run` finds in the three files that it reads, in order, and the first fault of their bytes.
-use Rattle.std.specs.Prelude.{◌≡◌, ℕ, ◌≤◌, List, [], ◌∷◌, ◌++◌, length, Some, None}
+use Rattle.std.specs.Prelude.{◌≡◌, ℕ, ◌≤◌, List, [], ◌∷◌, ◌++◌, length, None}
 use Rattle.std.specs.List.{AllByRecursion}
 use Rattle.edge_io.specs.declared.outside.TheConstants.{LONGEST_FILE}
 use Rattle.edge_io.specs.Files.{Held, FilesSeen, IfTold}
