@@ -1,6 +1,6 @@
 -- What the items of a program of the first form are.
 use Rattle.std.specs.Prelude.{◌≡◌, ℕ, false, List, Option, Some, None, IsTrue}
-use Rattle.efrp_meaning.specs.Causal.{IsPriority}
+use Rattle.frp_tree.specs.Priorities.{IsPriority}
 use Rattle.text_parts.specs.Names.{is_name}
 use Rattle.frp_tree.specs.Names.{is_keyword}
 use Rattle.frp_tree.specs.declared.tokens.Token.{Token}
