@@ -69,55 +69,55 @@ fn unusual_records(rt: HostRuntime) -> Result<(), Fail> {
     Ok(())
 }
 
-// Texts with a line that is no record's.
-const LINE_FAULTS: &[(&[u8], HexFault)] = &[
-    (b"\n\r\n00000001FF", HexFault::BadChar(3)),
-    (b":0000000GFF", HexFault::BadChar(1)),
-    (b":00000001FF\r", HexFault::BadChar(1)),
-    (b":00000001FF0", HexFault::BadLength(1)),
-    (b":00000000", HexFault::BadLength(1)),
-    (b":0000000100FF", HexFault::BadLength(1)),
+// Faulty texts by their first fault. In the clash only the top two bits of the word differ.
+const FAULTS: &[(HexFault, &[&[u8]])] = &[
+    (HexFault::BadChar(1), &[b":0000000GFF", b":00000001FF\r"]),
+    (HexFault::BadChar(3), &[b"\n\r\n00000001FF"]),
     (
-        b"\n:02400E003A3F36\n:x",
+        HexFault::BadLength(1),
+        &[
+            b":00000001FF0",
+            b":00000000",
+            b":0000000100FF",
+            b":0100000100FE",
+            b":0100000401FA",
+        ],
+    ),
+    (
         HexFault::BadSum {
             line: 2,
             got: 0x36,
             want: 0x37,
         },
+        &[b"\n:02400E003A3F36\n:x"],
     ),
-    (b":00000006FA", HexFault::BadType { line: 1, kind: 6 }),
-];
-
-// Texts of records of which one isn't allowed, and texts without an end. In the clash only the top two bits of the
-// word differ.
-const RECORD_FAULTS: &[(&[u8], HexFault)] = &[
-    (b":0100000100FE", HexFault::BadLength(1)),
-    (b":0100000401FA", HexFault::BadLength(1)),
-    (b":020000040001F9", HexFault::OutOfRange(1)),
-    (b":02FFFF00000000", HexFault::OutOfRange(1)),
+    (HexFault::BadType { line: 1, kind: 6 }, &[b":00000006FA"]),
     (
-        b":020000000028D6\n:02000000006896",
+        HexFault::OutOfRange(1),
+        &[b":020000040001F9", b":02FFFF00000000"],
+    ),
+    (
         HexFault::Clash {
             line: 2,
             address: 1,
         },
+        &[b":020000000028D6\n:02000000006896"],
     ),
-    (b":00000001FF\n\n:00000001FF", HexFault::AfterEnd(3)),
-    (b"", HexFault::NoEnd),
-    (b":020000000028D6\n", HexFault::NoEnd),
+    (HexFault::AfterEnd(3), &[b":00000001FF\n\n:00000001FF"]),
+    (HexFault::NoEnd, &[b"", b":020000000028D6\n"]),
 ];
 
-#[test]
-fn faults_of_lines(rt: HostRuntime) {
-    for (text, wanted) in LINE_FAULTS {
-        assert_eq!(rt; fault(rt.alloc(), text), Some(*wanted));
-    }
+// The number of the first of these texts, from 0 on, that has another fault than this.
+fn other_fault(alloc: Global, wanted: HexFault, texts: &[&[u8]]) -> Option<usize> {
+    texts
+        .iter()
+        .position(|text| fault(alloc, text) != Some(wanted))
 }
 
 #[test]
-fn faults_of_records(rt: HostRuntime) {
-    for (text, wanted) in RECORD_FAULTS {
-        assert_eq!(rt; fault(rt.alloc(), text), Some(*wanted));
+fn faults_of_texts(rt: HostRuntime) {
+    for (wanted, texts) in FAULTS {
+        assert_eq!(rt; other_fault(rt.alloc(), *wanted, texts), None, "{wanted:?}");
     }
 }
 
@@ -125,7 +125,11 @@ fn faults_of_records(rt: HostRuntime) {
 #[test]
 fn cut_at_each_byte(rt: HostRuntime) {
     for end in 0..SMALL.len() {
-        assert_eq!(rt; fault(rt.alloc(), &SMALL[..end]).is_none(), end >= 59);
+        assert_eq!(rt;
+            fault(rt.alloc(), &SMALL[..end]).is_none(),
+            end >= 59,
+            "{end}"
+        );
     }
 }
 
@@ -136,7 +140,11 @@ fn changed_at_each_byte(rt: HostRuntime) {
         let kept = text[place];
         text[place] = 0xFF;
         let line = 1 + place as u32 / 16;
-        assert_eq!(rt; fault(rt.alloc(), &text), Some(HexFault::BadChar(line)));
+        assert_eq!(rt;
+            fault(rt.alloc(), &text),
+            Some(HexFault::BadChar(line)),
+            "{place}"
+        );
         text[place] = kept;
     }
 }

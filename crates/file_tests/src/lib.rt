@@ -6,8 +6,8 @@ mod edge_tests;
 #[cfg(test)]
 mod hex_tests;
 #[cfg(test)]
-mod images;
-#[cfg(test)]
 mod map_tests;
+#[cfg(test)]
+mod maps;
 #[cfg(test)]
 mod script_tests;

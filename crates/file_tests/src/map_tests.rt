@@ -1,58 +1,13 @@
 // Maps: their texts, and the first faulty lines of other texts.
-ghost use Rattle.std.specs.Prelude.{◌≡◌, ◌<◌, ◌^◌, length, vec_len, IfOk};
+ghost use Rattle.std.specs.Prelude.{◌≡◌, IfOk, length, vec_len};
 ghost use Rattle.map_file.specs.MapRules.{IsMap};
 
-use frp_tree::{List, Text, Ty};
-use map_file::{Map, MapEvent, MapFault, MapSample, MapState, Range, read, write};
+use crate::maps::{event, sample, state};
+use frp_tree::{List, Ty};
+use map_file::{Map, MapFault, Range, read, write};
 use pic_isa::Source;
 use std::alloc::{AllocError, Global};
 use std::test::Fail;
-
-fn event(
-    alloc: Global,
-    name: &str,
-    source: Source,
-    priority: u8,
-    open: u16,
-    commit: u16,
-) -> Result<MapEvent, AllocError>
-    ensures { IfOk result (λ e. e ≡ record {
-      name = name.now;
-      source = source;
-      priority = priority;
-      «open» = «open»;
-      commit = commit;
-    }) }
-{
-    let name = Text::new(alloc, name)?;
-    Ok(MapEvent {
-        name,
-        source,
-        priority,
-        open,
-        commit,
-    })
-}
-
-fn state(alloc: Global, name: &str, ty: Ty, low: u16, high: u16) -> Result<MapState, AllocError>
-    ensures { IfOk result (λ s. s ≡ record { name = name.now; ty = ty; low = low; high = high }) }
-{
-    let name = Text::new(alloc, name)?;
-    Ok(MapState {
-        name,
-        ty,
-        low,
-        high,
-    })
-}
-
-fn sample(alloc: Global, event: &str, input: &str, at: u16) -> Result<MapSample, AllocError>
-    ensures { IfOk result (λ s. s ≡ record { event = event.now; input = input.now; at = at }) }
-{
-    let event = Text::new(alloc, event)?;
-    let input = Text::new(alloc, input)?;
-    Ok(MapSample { event, input, at })
-}
 
 // A map with each kind of line.
 fn each_kind(alloc: Global) -> Result<Map, AllocError>
@@ -110,20 +65,28 @@ fn writes_each_kind_of_line(rt: HostRuntime) -> Result<(), Fail> {
     Ok(())
 }
 
-const COUNTER: &[u8] = b"efrp map 1\n\
-    event Tick INT 1 open 0041 commit 1A47\n\
-    state n u8 020\n\
-    output PORTB\n\
-    ready 002F\n\
-    regs 006-00B\n\
-    regs 020-07F\n\
-    report depth 1 ram 11 words 72 settle 586\n";
+// The text of a map of the one event Tick, with these lines after it.
+fn with_lines(alloc: Global, lines: &str) -> Result<String, AllocError> {
+    format!(in alloc;
+        "efrp map 1\nevent Tick INT 1 open 0041 commit 1A47\n{lines}\nready 002F\nregs 006-00B\nregs 020-07F\nreport depth 1 ram 11 words 72 settle 586\n"
+    )
+}
+
+// Whether a text of at most 1,000 bytes is a map's, and is written as it was read.
+fn is_kept(alloc: Global, text: &[u8]) -> Result<bool, MapFault> {
+    if text.len() > 1000 {
+        return Ok(false);
+    }
+    let map = read(alloc, text)?;
+    Ok(write(alloc, &map)?.as_slice() == text)
+}
 
 #[test]
 fn reads_back(rt: HostRuntime) -> Result<(), Fail> {
-    let map = read(rt.alloc(), COUNTER)?;
-    let text = write(rt.alloc(), &map)?;
-    assert_eq!(rt; text.as_slice(), COUNTER);
+    let counter = with_lines(rt.alloc(), "state n u8 020\noutput PORTB")?;
+    for text in [counter.as_bytes(), SAMPLING, SHORT] {
+        assert!(rt; is_kept(rt.alloc(), text)?);
+    }
     let wide = read(
         rt.alloc(),
         b"efrp map 1\nstate a u16 16F 190\nready 0000\nreport depth 0 ram 0 words 0 settle 4294967295\n",
@@ -144,7 +107,7 @@ const SAMPLING: &[u8] = b"efrp map 1\n\
     report depth 1 ram 11 words 72 settle 586\n";
 
 #[test]
-fn reads_samples_back(rt: HostRuntime) -> Result<(), Fail> {
+fn reads_samples(rt: HostRuntime) -> Result<(), Fail> {
     let map = read(rt.alloc(), SAMPLING)?;
     let [level, init] = map.samples.as_slice() else {
         return Err(Fail::new("there are two samples"));
@@ -154,85 +117,74 @@ fn reads_samples_back(rt: HostRuntime) -> Result<(), Fail> {
     assert_eq!(rt; level.at, 0x12);
     assert_eq!(rt; init.input.as_str(), "init");
     assert_eq!(rt; init.at, 0x1FFF);
-    let text = write(rt.alloc(), &map)?;
-    assert_eq!(rt; text.as_slice(), SAMPLING);
     Ok(())
 }
 
-fn fault_of(alloc: Global, bytes: &[u8]) -> Option<MapFault>
-    requires { length bytes.now < 2 ^ 32 }
-{
-    read(alloc, bytes).err()
+// The number of the first faulty line of a text of at most 1,000 bytes.
+fn fault_of(alloc: Global, text: &[u8]) -> Option<MapFault> {
+    if text.len() > 1000 {
+        return None;
+    }
+    read(alloc, text).err()
 }
+
+// Texts with the number of their first faulty line.
+const FAULTS: &[(&[u8], u32)] = &[
+    (b"efrp map 2\nready 0000\n", 1),
+    (b"efrp map 1\r\nready 0000\r\n", 1),
+    (b"efrp map 1\nready 0000\n", 3),
+    (
+        b"efrp map 1\nready 0000\nreport depth 0 ram 0 words 0 settle 0",
+        3,
+    ),
+    (
+        b"efrp map 1\nready 0000\nreport depth 0 ram 0 words 0 settle 0\n\n",
+        4,
+    ),
+    (b"efrp map 1\nready 0000\nregs 000-005\nregs 006-007\n", 4),
+    (
+        b"efrp map 1\nsample Tick level 0012\nevent Tick INT 1 open 0041 commit 1A47\n",
+        2,
+    ),
+    (
+        b"efrp map 1\nevent Tick INT 1 open 0041 commit 1A47\nready 0000\nsample Tick level 0012\n",
+        4,
+    ),
+];
 
 #[test]
 fn first_faulty_lines(rt: HostRuntime) {
-    let version = fault_of(rt.alloc(), b"efrp map 2\nready 0000\n");
-    assert_eq!(rt; version, Some(MapFault::Line(1)));
-    let carriage = fault_of(rt.alloc(), b"efrp map 1\r\nready 0000\r\n");
-    assert_eq!(rt; carriage, Some(MapFault::Line(1)));
-    let missing = fault_of(rt.alloc(), b"efrp map 1\nready 0000\n");
-    assert_eq!(rt; missing, Some(MapFault::Line(3)));
-    let unended = fault_of(
-        rt.alloc(),
-        b"efrp map 1\nready 0000\nreport depth 0 ram 0 words 0 settle 0",
-    );
-    assert_eq!(rt; unended, Some(MapFault::Line(3)));
-    let touching = fault_of(
-        rt.alloc(),
-        b"efrp map 1\nready 0000\nregs 000-005\nregs 006-007\n",
-    );
-    assert_eq!(rt; touching, Some(MapFault::Line(4)));
-    let more = fault_of(
-        rt.alloc(),
-        b"efrp map 1\nready 0000\nreport depth 0 ram 0 words 0 settle 0\n\n",
-    );
-    assert_eq!(rt; more, Some(MapFault::Line(4)));
-}
-
-// The fault of a text whose third line, after the one event Tick, is this one.
-fn third_line_fault(alloc: Global, line: &str) -> Result<Option<MapFault>, AllocError> {
-    let text = format!(in alloc;
-        "efrp map 1\nevent Tick INT 1 open 0041 commit 1A47\n{line}\nready 002F\nreport depth 0 ram 0 words 0 settle 0\n"
-    )?;
-    if text.len() < 1000 {
-        Ok(fault_of(alloc, text.as_bytes()))
-    } else {
-        Ok(None)
+    for (text, line) in FAULTS {
+        assert_eq!(rt;
+            fault_of(rt.alloc(), text),
+            Some(MapFault::Line(*line)),
+            "{text:?}"
+        );
     }
 }
 
+// Lines after the one event Tick, with the number in the map of the first faulty one, if there is one.
+const SAMPLE_FAULTS: &[(&str, Option<u32>)] = &[
+    ("sample Tick level 0012", None),
+    ("sample Tock level 0012", Some(3)),
+    ("sample Tick level 2000", Some(3)),
+    ("sample Tick level 012", Some(3)),
+    ("sample Tick 9 0012", Some(3)),
+    ("sample Tick level 0012 0012", Some(3)),
+    ("sample Tick level 0012\noutput PORTB", Some(4)),
+    (
+        "sample Tick level 0012\nsample Tick dark 0012\nsample Tick level 0013",
+        Some(5),
+    ),
+];
+
 #[test]
 fn faulty_samples(rt: HostRuntime) -> Result<(), Fail> {
-    let line = third_line_fault(rt.alloc(), "sample Tick level 0012")?;
-    assert_eq!(rt; line, None);
-    let unknown = third_line_fault(rt.alloc(), "sample Tock level 0012")?;
-    assert_eq!(rt; unknown, Some(MapFault::Line(3)));
-    let high = third_line_fault(rt.alloc(), "sample Tick level 2000")?;
-    assert_eq!(rt; high, Some(MapFault::Line(3)));
-    let short = third_line_fault(rt.alloc(), "sample Tick level 012")?;
-    assert_eq!(rt; short, Some(MapFault::Line(3)));
-    let digit = third_line_fault(rt.alloc(), "sample Tick 9 0012")?;
-    assert_eq!(rt; digit, Some(MapFault::Line(3)));
-    let more = third_line_fault(rt.alloc(), "sample Tick level 0012 0012")?;
-    assert_eq!(rt; more, Some(MapFault::Line(3)));
-    let twice = third_line_fault(
-        rt.alloc(),
-        "sample Tick level 0012\nsample Tick dark 0012\nsample Tick level 0013",
-    )?;
-    assert_eq!(rt; twice, Some(MapFault::Line(5)));
-    let late = third_line_fault(rt.alloc(), "sample Tick level 0012\noutput PORTB")?;
-    assert_eq!(rt; late, Some(MapFault::Line(4)));
-    let before_its_event = fault_of(
-        rt.alloc(),
-        b"efrp map 1\nsample Tick level 0012\nevent Tick INT 1 open 0041 commit 1A47\n",
-    );
-    assert_eq!(rt; before_its_event, Some(MapFault::Line(2)));
-    let after_ready = fault_of(
-        rt.alloc(),
-        b"efrp map 1\nevent Tick INT 1 open 0041 commit 1A47\nready 0000\nsample Tick level 0012\n",
-    );
-    assert_eq!(rt; after_ready, Some(MapFault::Line(4)));
+    for (lines, line) in SAMPLE_FAULTS {
+        let text = with_lines(rt.alloc(), lines)?;
+        let wanted = line.map(MapFault::Line);
+        assert_eq!(rt; fault_of(rt.alloc(), text.as_bytes()), wanted, "{lines:?}");
+    }
     Ok(())
 }
 
@@ -240,7 +192,7 @@ fn faulty_samples(rt: HostRuntime) -> Result<(), Fail> {
 fn each_cut_is_a_fault(rt: HostRuntime) {
     for end in 0..SAMPLING.len() {
         let fault = fault_of(rt.alloc(), &SAMPLING[..end]);
-        assert!(rt; matches!(fault, Some(MapFault::Line(_))));
+        assert!(rt; matches!(fault, Some(MapFault::Line(_))), "{end}");
     }
 }
 
@@ -257,9 +209,7 @@ fn changed(alloc: Global, bytes: &[u8], place: usize, byte: u8) -> Result<Vec<u8
 // The first and the last byte of each kind, and those beside them.
 const EDGES: &[u8] = b"\0\x09\n\x0B\r\x1F !+,-./019:@AFGZ[^_`afgz{\x7F\x80\xFF";
 
-fn changes_are_answered(alloc: Global, bytes: &[u8], place: usize) -> Result<bool, AllocError>
-    requires { length bytes.now < 2 ^ 32 }
-{
+fn changes_are_answered(alloc: Global, bytes: &[u8], place: usize) -> Result<bool, AllocError> {
     let mut answered = true;
     for byte in EDGES {
         let copy = changed(alloc, bytes, place, *byte)?;
@@ -282,7 +232,7 @@ const SHORT: &[u8] = b"efrp map 1\n\
 #[test]
 fn each_changed_byte_is_answered(rt: HostRuntime) -> Result<(), Fail> {
     for place in 0..SHORT.len() {
-        assert!(rt; changes_are_answered(rt.alloc(), SHORT, place)?);
+        assert!(rt; changes_are_answered(rt.alloc(), SHORT, place)?, "{place}");
     }
     Ok(())
 }
