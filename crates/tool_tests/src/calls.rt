@@ -1,3 +1,5 @@
+// Calls of the tool on a source, HEX and MAP in memory, and how they end.
+
 use edge_io::{MemFiles, MemSink};
 use frp_tool::efrp;
 use frp_tree::{List, Text};

@@ -1,3 +1,5 @@
+// Calls of `compile`: what they put and leave, where a file or the sink fails, and words that form no command.
+
 use crate::calls::{Call, Ended, Found, HEX, MAP, SOURCE, ends};
 use std::alloc::{AllocError, Global};
 
@@ -69,7 +71,10 @@ fn compiles_a_counter(rt: HostRuntime) {
 fn refuses_what_is_no_counter(rt: HostRuntime) {
     for source in [TWO_DEFINITIONS, ""] {
         let call = compile(Some(source.as_bytes()), "refused: form\n");
-        assert!(rt; ends(&rt, &call, (1, Found::Absent, Found::Absent)));
+        assert!(rt;
+            ends(&rt, &call, (1, Found::Absent, Found::Absent)),
+            "{source:?}"
+        );
     }
 }
 
@@ -79,79 +84,72 @@ fn says_what_is_missing(rt: HostRuntime) {
     assert!(rt; ends(&rt, &call, (3, Found::Absent, Found::Absent)));
 }
 
-// Whether a compile ends so where these calls of files and of the sink fail.
-fn fails<'a>(
-    rt: &(impl AllocGlobal + Print),
-    files: &'a [u32],
-    puts: &'a [u32],
-    put: &'a str,
-    want: Ended,
-) -> bool {
-    let call = Call {
-        words: &["compile", SOURCE, HEX, MAP],
-        source: Some(COUNTER.as_bytes()),
-        files,
-        puts,
-        hex: COUNTER_HEX,
-        map: COUNTER_MAP,
-        put,
-    };
-    ends(rt, &call, want)
-}
+// The numbers of the call of files that fails, from 0 on, what a compile puts then, its status, and what stands under
+// the name of HEX.
+const FAILURES: &[(u32, &str, u8, Found)] = &[
+    (0, "read failed: b.frp\n", 4, Found::Absent),
+    (1, "write failed: b.hex\n", 5, Found::Absent),
+    (2, "write failed: b.map\n", 5, Found::Whole),
+];
 
 #[test]
-fn says_that_the_read_failed(rt: HostRuntime) {
-    let want = (4, Found::Absent, Found::Absent);
-    assert!(rt; fails(&rt, &[0], &[], "read failed: b.frp\n", want));
-}
-
-#[test]
-fn says_that_the_first_write_failed(rt: HostRuntime) {
-    let want = (5, Found::Absent, Found::Absent);
-    assert!(rt; fails(&rt, &[1], &[], "write failed: b.hex\n", want));
-}
-
-#[test]
-fn says_that_the_second_write_failed(rt: HostRuntime) {
-    let want = (5, Found::Whole, Found::Absent);
-    assert!(rt; fails(&rt, &[2], &[], "write failed: b.map\n", want));
+fn says_which_call_of_files_failed(rt: HostRuntime) {
+    for (number, put, status, hex) in FAILURES {
+        let call = Call {
+            files: &[*number],
+            ..compile(Some(COUNTER.as_bytes()), put)
+        };
+        assert!(rt; ends(&rt, &call, (*status, *hex, Found::Absent)), "{put}");
+    }
 }
 
 #[test]
 fn tells_by_its_status_that_the_put_failed(rt: HostRuntime) {
-    let want = (5, Found::Whole, Found::Whole);
-    assert!(rt; fails(&rt, &[], &[0], "", want));
+    let call = Call {
+        puts: &[0],
+        ..compile(Some(COUNTER.as_bytes()), "")
+    };
+    assert!(rt; ends(&rt, &call, (5, Found::Whole, Found::Whole)));
 }
+
+/// Words that form no command.
+const NO_COMMANDS: &[&[&str]] = &[
+    &[],
+    &["--help"],
+    &["compile", SOURCE, HEX],
+    &["compile", SOURCE, "", MAP],
+    &["compile", SOURCE, "-o", MAP],
+    &["compile", SOURCE, HEX, HEX],
+];
+
+/// Words of the commands to come.
+const COMMANDS_TO_COME: &[&[&str]] = &[
+    &["check", SOURCE],
+    &["model", SOURCE, "b.events"],
+    &["big", "7", HEX, MAP],
+];
 
 // Whether these words are answered with the usage line.
 fn form_no_command(rt: &(impl AllocGlobal + Print), words: &[&str]) -> bool {
     let call = Call {
         words,
-        source: Some(COUNTER.as_bytes()),
-        files: &[],
-        puts: &[],
-        hex: COUNTER_HEX,
-        map: COUNTER_MAP,
-        put: USAGE,
+        ..compile(Some(COUNTER.as_bytes()), USAGE)
     };
     ends(rt, &call, (2, Found::Absent, Found::Absent))
 }
 
 #[test]
 fn answers_other_words_with_the_usage_line(rt: HostRuntime) {
-    assert!(rt; form_no_command(&rt, &[]));
-    assert!(rt; form_no_command(&rt, &["--help"]));
-    assert!(rt; form_no_command(&rt, &["compile", SOURCE, HEX]));
-    assert!(rt; form_no_command(&rt, &["compile", SOURCE, "", MAP]));
-    assert!(rt; form_no_command(&rt, &["compile", SOURCE, "-o", MAP]));
-    assert!(rt; form_no_command(&rt, &["compile", SOURCE, HEX, HEX]));
+    for words in NO_COMMANDS {
+        assert!(rt; form_no_command(&rt, words), "{words:?}");
+    }
 }
 
 #[test]
 fn answers_commands_to_come_with_the_usage_line(rt: HostRuntime) {
-    assert!(rt; form_no_command(&rt, &["check", SOURCE]));
-    assert!(rt; form_no_command(&rt, &["model", SOURCE, "b.events"]));
-    assert!(rt; form_no_command(&rt, &["big", "7", HEX, MAP]));
+    for words in COMMANDS_TO_COME {
+        assert!(rt; form_no_command(&rt, words), "{words:?}");
+    }
 }
 
 // Whether a counter that blanks make this long ends so.

@@ -1,3 +1,5 @@
+// Calls of `run` over the three files in memory, and how they end.
+
 use crate::calls::{HEX, MAP, NO_MEMORY, numbers, texts};
 use edge_io::{MemFiles, MemSink};
 use frp_tool::efrp;

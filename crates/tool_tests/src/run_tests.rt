@@ -1,12 +1,16 @@
+// Calls of `run`: traces, late interrupts, what is refused, missing, too long or damaged, and where a file or the
+// sink fails.
+
 use crate::calls::{HEX, MAP, NO_MEMORY, texts};
 use crate::compile_tests::{COUNTER_HEX, COUNTER_MAP};
 use crate::run_calls::{self, Run, end_of, run_ends};
 use edge_io::{SureFiles, SureSink};
 use frp_tool::efrp;
 use std::alloc::{AllocError, Global};
+use std::str;
 
-/// Three events.
-const SCRIPT: &str = "at 1000 INT\nat 2000 INT\nat 3000 INT\nsteps 4000\n";
+/// Three ticks, at boundaries of even and odd numbers.
+const SCRIPT: &str = "at 1000 INT\nat 2001 INT\nat 3000 INT\nsteps 4000\n";
 
 /// What they do.
 const TRACE: &str = "1000 latch INT
@@ -14,11 +18,11 @@ const TRACE: &str = "1000 latch INT
 1004 open Tick
 1005 port PORTB 01
 1005 commit Tick n=1
-2000 latch INT
-2000 take
-2004 open Tick
-2005 port PORTB 02
-2005 commit Tick n=2
+2001 latch INT
+2001 take
+2005 open Tick
+2006 port PORTB 02
+2006 commit Tick n=2
 3000 latch INT
 3000 take
 3004 open Tick
@@ -53,6 +57,69 @@ fn traces_the_counter(rt: HostRuntime) {
     assert!(rt; run_ends(&rt, &counter(SCRIPT), 0, TRACE));
 }
 
+// How many steps later than a line of a trace another comes that tells the same. None where it tells something else.
+fn delay(line: &str, other: &str) -> Option<u32> {
+    if line == other {
+        return Some(0);
+    }
+    let (step, told) = line.split_once(' ')?;
+    let (later, told_later) = other.split_once(' ')?;
+    if told != told_later {
+        return None;
+    }
+    let step = step.parse::<u32>().ok()?;
+    later.parse::<u32>().ok()?.checked_sub(step)
+}
+
+// How many lines of a trace come one step later than the lines of another. None where there are more or fewer lines,
+// or one comes earlier or later than that, or tells something else.
+fn lines_later(trace: &str, late: &str) -> Option<usize> {
+    let mut others = late.lines();
+    let mut later = 0usize;
+    for line in trace.lines() {
+        match delay(line, others.next()?)? {
+            0 => {}
+            1 => later = later.saturating_add(1),
+            _ => return None,
+        }
+    }
+    match others.next() {
+        Some(_) => None,
+        None => Some(later),
+    }
+}
+
+// How many lines of the counter's trace come one step later under this script.
+fn counter_later(rt: &(impl AllocGlobal + Print), script: &str) -> Option<usize> {
+    let ended = end_of(rt, &counter(script))?;
+    if ended.status != 0 {
+        return None;
+    }
+    lines_later(TRACE, str::from_utf8(ended.put.as_slice()).ok()?)
+}
+
+// Of each late tick the four lines behind its latch come one step later.
+#[test]
+fn commits_the_same_where_interrupts_come_late(rt: HostRuntime) {
+    let cases = [
+        (
+            "late never\nat 1000 INT\nat 2001 INT\nat 3000 INT\nsteps 4000\n",
+            0,
+        ),
+        (
+            "late odd\nat 1000 INT\nat 2001 INT\nat 3000 INT\nsteps 4000\n",
+            4,
+        ),
+        (
+            "late always\nat 1000 INT\nat 2001 INT\nat 3000 INT\nsteps 4000\n",
+            12,
+        ),
+    ];
+    for (script, later) in cases {
+        assert_eq!(rt; counter_later(&rt, script), Some(later), "{script:?}");
+    }
+}
+
 #[test]
 fn traces_from_any_content_of_memory(rt: HostRuntime) {
     let call = counter("fill FF\nsteps 586\n");
@@ -79,9 +146,15 @@ fn says_what_is_wrong_with_the_script(rt: HostRuntime) {
         ),
         ("at 5 INT\n", "refused: script 2 nosteps\n"),
         ("at 5 INT\nat 9 INT\nsteps 9\n", "refused: script 2 past\n"),
+        ("late\nsteps 9\n", "refused: script 1 line\n"),
+        ("pin 5 PORTX 00\nsteps 9\n", "refused: script 1 port\n"),
+        (
+            "pin 5 PORTB 00\npin 5 PORTB 01\nsteps 9\n",
+            "refused: script 2 pintwice\n",
+        ),
     ];
     for (script, put) in cases {
-        assert!(rt; run_ends(&rt, &counter(script), 1, put));
+        assert!(rt; run_ends(&rt, &counter(script), 1, put), "{script:?}");
     }
 }
 
@@ -106,7 +179,7 @@ fn says_what_is_wrong_with_the_hex(rt: HostRuntime) {
     ];
     for (hex, put) in cases {
         let call = files(hex, COUNTER_MAP, "steps 9\n");
-        assert!(rt; run_ends(&rt, &call, 1, put), "{hex}");
+        assert!(rt; run_ends(&rt, &call, 1, put), "{hex:?}");
     }
 }
 
@@ -120,47 +193,68 @@ fn says_where_the_chip_stops(rt: HostRuntime) {
 
 #[test]
 fn tests_hex_first_then_the_map_then_the_script(rt: HostRuntime) {
-    let all = files("x\n", "x\n", "x\n");
-    assert!(rt; run_ends(&rt, &all, 1, "refused: hex 1 char\n"));
-    let two = files(COUNTER_HEX, "x\n", "x\n");
-    assert!(rt; run_ends(&rt, &two, 1, "refused: map 1\n"));
-    let one = files(SLEEP_HEX, COUNTER_MAP, "x\n");
-    assert!(rt; run_ends(&rt, &one, 1, "refused: script 1 line\n"));
+    let cases = [
+        ("x\n", "x\n", "refused: hex 1 char\n"),
+        (COUNTER_HEX, "x\n", "refused: map 1\n"),
+        (SLEEP_HEX, COUNTER_MAP, "refused: script 1 line\n"),
+    ];
+    for (hex, map, put) in cases {
+        assert!(rt; run_ends(&rt, &files(hex, map, "x\n"), 1, put), "{put}");
+    }
+}
+
+/// A file that a run reads.
+#[derive(Clone, Copy, Debug)]
+enum Part {
+    Hex,
+    Map,
+    Script,
+}
+
+// A run with this in place of one of its files.
+fn with<'a>(whole: Run<'a>, part: Part, bytes: Option<&'a [u8]>) -> Run<'a> {
+    match part {
+        Part::Hex => Run {
+            hex: bytes,
+            ..whole
+        },
+        Part::Map => Run {
+            map: bytes,
+            ..whole
+        },
+        Part::Script => Run {
+            script: bytes,
+            ..whole
+        },
+    }
 }
 
 #[test]
 fn says_what_is_missing(rt: HostRuntime) {
-    let faulty = files("x\n", "x\n", "x\n");
-    let hex = Run {
-        hex: None,
-        ..faulty
-    };
-    let map = Run {
-        map: None,
-        ..faulty
-    };
-    let script = Run {
-        script: None,
-        ..faulty
-    };
-    assert!(rt; run_ends(&rt, &hex, 3, "missing: b.hex\n"));
-    assert!(rt; run_ends(&rt, &map, 3, "missing: b.map\n"));
-    assert!(rt; run_ends(&rt, &script, 3, "missing: b.script\n"));
+    let cases = [
+        (Part::Hex, "missing: b.hex\n"),
+        (Part::Map, "missing: b.map\n"),
+        (Part::Script, "missing: b.script\n"),
+    ];
+    for (part, put) in cases {
+        let call = with(files("x\n", "x\n", "x\n"), part, None);
+        assert!(rt; run_ends(&rt, &call, 3, put), "{put}");
+    }
 }
 
 #[test]
 fn says_which_read_failed(rt: HostRuntime) {
-    let lines = [
-        "read failed: b.hex\n",
-        "read failed: b.map\n",
-        "read failed: b.script\n",
+    let cases = [
+        (0, "read failed: b.hex\n"),
+        (1, "read failed: b.map\n"),
+        (2, "read failed: b.script\n"),
     ];
-    for (number, put) in [0u32, 1, 2].into_iter().zip(lines) {
+    for (number, put) in cases {
         let call = Run {
             files: &[number],
             ..counter(SCRIPT)
         };
-        assert!(rt; run_ends(&rt, &call, 4, put));
+        assert!(rt; run_ends(&rt, &call, 4, put), "{put}");
     }
 }
 
@@ -171,7 +265,7 @@ fn tells_by_its_status_that_the_put_failed(rt: HostRuntime) {
             puts: &[0],
             ..counter(script)
         };
-        assert!(rt; run_ends(&rt, &call, 5, ""));
+        assert!(rt; run_ends(&rt, &call, 5, ""), "{script:?}");
     }
 }
 
@@ -203,64 +297,40 @@ fn is_answered(rt: &(impl AllocGlobal + Print), call: &Run<'_>) -> bool {
     }
 }
 
-/// The file that is damaged, or too long.
-#[derive(Clone, Copy, Debug)]
-enum Damaged {
-    Hex,
-    Map,
-    Script,
-}
-
 /// A script of a run that ends.
 const SHORT_SCRIPT: &str = "fill 55\nat 21 INT TMR1\nsteps 40\n";
 
-fn text_of(which: Damaged) -> &'static str {
-    match which {
-        Damaged::Hex => COUNTER_HEX,
-        Damaged::Map => COUNTER_MAP,
-        Damaged::Script => SHORT_SCRIPT,
-    }
-}
-
-// The counter's files, with this in place of one of them.
-fn with<'a>(which: Damaged, bytes: &'a [u8]) -> Run<'a> {
-    let whole = counter(SHORT_SCRIPT);
-    match which {
-        Damaged::Hex => Run {
-            hex: Some(bytes),
-            ..whole
-        },
-        Damaged::Map => Run {
-            map: Some(bytes),
-            ..whole
-        },
-        Damaged::Script => Run {
-            script: Some(bytes),
-            ..whole
-        },
+fn text_of(part: Part) -> &'static str {
+    match part {
+        Part::Hex => COUNTER_HEX,
+        Part::Map => COUNTER_MAP,
+        Part::Script => SHORT_SCRIPT,
     }
 }
 
 // Whether this damage to a file is answered. An `Err` says that memory ran out.
 fn damage_is_answered(
     rt: &(impl AllocGlobal + Print),
-    which: Damaged,
+    part: Part,
     place: usize,
     byte: Option<u8>,
 ) -> Result<bool, AllocError> {
-    let bytes = copy_with_damage(rt.alloc(), text_of(which).as_bytes(), place, byte)?;
-    Ok(is_answered(rt, &with(which, bytes.as_slice())))
+    let bytes = copy_with_damage(rt.alloc(), text_of(part).as_bytes(), place, byte)?;
+    Ok(is_answered(
+        rt,
+        &with(counter(SHORT_SCRIPT), part, Some(bytes.as_slice())),
+    ))
 }
 
 // Whether a file is answered that is cut at any place, or has this byte there. Where memory ran out a place is tried
 // again.
-fn answers_damage(rt: &(impl AllocGlobal + Print), which: Damaged, byte: Option<u8>) -> bool {
-    for place in 0..text_of(which).len() {
-        let answered = match damage_is_answered(rt, which, place, byte) {
+fn answers_damage(rt: &(impl AllocGlobal + Print), part: Part, byte: Option<u8>) -> bool {
+    for place in 0..text_of(part).len() {
+        let answered = match damage_is_answered(rt, part, place, byte) {
             Ok(answered) => answered,
             Err(AllocError) => {
                 let _ = println!(rt; "memory ran out");
-                matches!(damage_is_answered(rt, which, place, byte), Ok(true))
+                matches!(damage_is_answered(rt, part, place, byte), Ok(true))
             }
         };
         if !answered {
@@ -271,29 +341,17 @@ fn answers_damage(rt: &(impl AllocGlobal + Print), which: Damaged, byte: Option<
 }
 
 #[test]
-fn answers_cut_hex_files(rt: HostRuntime) {
-    assert!(rt; answers_damage(&rt, Damaged::Hex, None));
+fn answers_cut_files(rt: HostRuntime) {
+    for part in [Part::Hex, Part::Map, Part::Script] {
+        assert!(rt; answers_damage(&rt, part, None), "{part:?}");
+    }
 }
 
 #[test]
-fn answers_changed_hex_files(rt: HostRuntime) {
-    assert!(rt; answers_damage(&rt, Damaged::Hex, Some(b'0')));
-}
-
-#[test]
-fn answers_cut_maps(rt: HostRuntime) {
-    assert!(rt; answers_damage(&rt, Damaged::Map, None));
-}
-
-#[test]
-fn answers_changed_maps(rt: HostRuntime) {
-    assert!(rt; answers_damage(&rt, Damaged::Map, Some(b'0')));
-}
-
-#[test]
-fn answers_damaged_scripts(rt: HostRuntime) {
-    assert!(rt; answers_damage(&rt, Damaged::Script, None));
-    assert!(rt; answers_damage(&rt, Damaged::Script, Some(b'0')));
+fn answers_changed_files(rt: HostRuntime) {
+    for part in [Part::Hex, Part::Map, Part::Script] {
+        assert!(rt; answers_damage(&rt, part, Some(b'0')), "{part:?}");
+    }
 }
 
 fn blanks(alloc: Global, length: usize) -> Result<Vec<u8>, AllocError> {
@@ -303,7 +361,7 @@ fn blanks(alloc: Global, length: usize) -> Result<Vec<u8>, AllocError> {
 }
 
 // Whether a file in this place is refused that is a byte too long.
-fn long_is_refused(rt: &(impl AllocGlobal + Print), which: Damaged, put: &str) -> bool {
+fn long_is_refused(rt: &(impl AllocGlobal + Print), part: Part, put: &str) -> bool {
     let text = match blanks(rt.alloc(), 1_048_577) {
         Ok(text) => text,
         Err(AllocError) => {
@@ -314,14 +372,24 @@ fn long_is_refused(rt: &(impl AllocGlobal + Print), which: Damaged, put: &str) -
             text
         }
     };
-    run_ends(rt, &with(which, text.as_slice()), 1, put)
+    run_ends(
+        rt,
+        &with(counter(SHORT_SCRIPT), part, Some(text.as_slice())),
+        1,
+        put,
+    )
 }
 
 #[test]
 fn says_which_file_is_too_long(rt: HostRuntime) {
-    assert!(rt; long_is_refused(&rt, Damaged::Hex, "refused: long b.hex\n"));
-    assert!(rt; long_is_refused(&rt, Damaged::Map, "refused: long b.map\n"));
-    assert!(rt; long_is_refused(&rt, Damaged::Script, "refused: long b.script\n"));
+    let cases = [
+        (Part::Hex, "refused: long b.hex\n"),
+        (Part::Map, "refused: long b.map\n"),
+        (Part::Script, "refused: long b.script\n"),
+    ];
+    for (part, put) in cases {
+        assert!(rt; long_is_refused(&rt, part, put), "{put}");
+    }
 }
 
 // Whether the counter is traced over files and a sink that never fail. An `Err` says that memory ran out.
