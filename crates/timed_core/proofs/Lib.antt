@@ -1,0 +1,4 @@
+pub mod LiveLaws
+pub mod MoveLaws
+pub mod NestingLaws
+pub mod ShapeLaws
