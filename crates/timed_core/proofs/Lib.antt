@@ -1,4 +1,10 @@
+pub mod ComesLaws
 pub mod LiveLaws
 pub mod MoveLaws
 pub mod NestingLaws
+pub mod OnLaws
+pub mod OnceLaws
+pub mod OpenLaws
+pub mod OvertakingLaws
 pub mod ShapeLaws
+pub mod WindowLaws

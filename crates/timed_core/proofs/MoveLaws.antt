@@ -23,7 +23,7 @@ pub data Move (p : Timing) (now : ℕ → Bool) : Phase → Label → List Run �
   clears : {j h : ℕ} {g : ℕ → Bool} {st : List Run} → now h ≡ true → Best p g h → top_level p st < p.level h → Move p now (Chooses j g) (Clears h) st (Begins p.start) (fresh p h ∷ st)
   begins : {j i : ℕ} {st : List Run} → i < j → Move p now (Begins j) Stays st (Begins i) st
   turns : {j : ℕ} {r : Run} {rs : List Run} → Move p now (Begins j) Turns (r ∷ rs) Works (fresh p r.event ∷ rs)
-  opens_short : {j : ℕ} {r : Run} {rs : List Run} → ((x : ℕ) → p.level x ≤ p.level r.event) → Move p now (Begins j) (Opens r.event) (r ∷ rs) (Copies p.copying) (r ∷ rs)
+  opens_short : {j : ℕ} {r : Run} {rs : List Run} → p.short ≡ true → ((x : ℕ) → p.level x ≤ p.level r.event) → Move p now (Begins j) (Opens r.event) (r ∷ rs) (Copies p.copying) (r ∷ rs)
   repeats : {j i : ℕ} {st : List Run} → i < j → Move p now (Repeats j) Stays st (Repeats i) st
   turns_again : {j : ℕ} {r : Run} {rs : List Run} → Move p now (Repeats j) Turns (r ∷ rs) Works (fresh p r.event ∷ rs)
   nears : {j i : ℕ} {st : List Run} → i < j → Move p now (Nears j) Stays st (Nears i) st
@@ -60,7 +60,7 @@ move_to p now (Chooses j g) (Clears h) st t q = along p now _ _ _ q.3 (clears q.
 move_to p now (Begins j) Stays st t q = along p now _ _ _ q.2 (begins q.1)
 move_to p now (Begins j) Turns (r ∷ rs) t q = along p now _ _ _ q turns
 move_to p now (Begins j) (Opens e) (r ∷ rs) t q =
-    subst (λ x. Move p now (Begins j) (Opens x) (r ∷ rs) t.phase t.stack) (sym q.0) (along p now _ _ _ q.2 (opens_short (subst (λ y. (x : ℕ) → p.level x ≤ p.level y) q.0 q.1)))
+    subst (λ x. Move p now (Begins j) (Opens x) (r ∷ rs) t.phase t.stack) (sym q.0) (along p now _ _ _ q.3 (opens_short q.1 (subst (λ y. (x : ℕ) → p.level x ≤ p.level y) q.0 q.2)))
 move_to p now (Repeats j) Stays st t q = along p now _ _ _ q.2 (repeats q.1)
 move_to p now (Repeats j) Turns (r ∷ rs) t q = along p now _ _ _ q turns_again
 move_to p now (Nears j) Stays st t q = along p now _ _ _ q.2 (nears q.1)

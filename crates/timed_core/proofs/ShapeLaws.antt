@@ -59,7 +59,7 @@ module _ (p : Timing) where
     shape_kept (clears its_flag best level) s still = (refl, (omega arith, level, s.0), omega arith)
     shape_kept (begins h) s still = (s.0, s.1, omega arith)
     shape_kept turns s still = (tt, let t = s.1 in (omega arith, t.1, t.2))
-    shape_kept (opens_short h) s still = (s.0, s.1, omega arith)
+    shape_kept (opens_short is_short h) s still = (s.0, s.1, omega arith)
     shape_kept (repeats h) s still = (s.0, s.1, omega arith)
     shape_kept turns_again s still = (tt, let t = s.1 in (omega arith, t.1, t.2))
     shape_kept (nears h) s still = (s.0, s.1, omega arith)

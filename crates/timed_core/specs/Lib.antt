@@ -1,3 +1,5 @@
+pub mod Counts
+pub mod Promises
 pub mod Shape
 pub mod Steps
 pub mod Tale

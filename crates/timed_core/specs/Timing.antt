@@ -1,5 +1,5 @@
 -- Events, their levels, and bounds in steps on the code that treats them.
-use Rattle.std.specs.Prelude.{◌≡◌, ℕ, ◌+◌, ◌*◌, ◌≤◌, ◌==◌, List, count_by, nat_lt, if◌then◌else◌}
+use Rattle.std.specs.Prelude.{◌≡◌, ℕ, ◌+◌, ◌*◌, ◌<◌, ◌≤◌, ◌==◌, Bool, true, List, count_by, nat_lt, if◌then◌else◌}
 
 -- Events are numbers, listed in declaration order. The level of an event is its priority, from 1; all other numbers have
 -- level 0. Each bound on a phase means the present step and at most so many more.
@@ -23,6 +23,8 @@ pub record Timing : Type 0 where
   pub retry : ℕ
   -- The steps of a run's way to its work, which stand in `body` beside those that the event's code is given.
   pub spare : ℕ
+  -- Whether events of the highest level may be treated with interrupts off throughout.
+  pub short : Bool
 
 -- Each event is listed once, and nothing else is.
 abbrev pub IsListed : Timing → Type 0
@@ -31,7 +33,7 @@ IsListed p = (x : ℕ) → count_by (λ y. y == x) p.events ≡ (if nat_lt 0 (p.
 -- The bounds are within `off`, the number of steps that interrupts may be off.
 pub record Within (p : Timing) (off : ℕ) : Type 0 where
   pub taking : p.choose + p.start + 4 + p.retry ≤ off
-  pub short : p.choose + p.start + p.copying + p.exiting + p.retry + 6 ≤ off
+  pub short : p.short ≡ true → p.choose + p.start + p.copying + p.exiting + p.retry + 6 ≤ off
   pub again : p.again + 2 + p.spare ≤ off
   pub commit : p.opening + p.copying + p.exiting + 4 ≤ off
   pub sum : 2 * (p.choose + p.start + 4 + p.retry) + (p.again + 2) + 2 * (p.opening + p.copying + p.exiting + 4) + p.retry + 3 * p.spare ≤ 4 * off

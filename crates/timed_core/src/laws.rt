@@ -1,8 +1,10 @@
 // The theorems about the timed core: what holds of each tale that it tells, at every moment.
 
-ghost use Rattle.timed_core.specs.Timing.{Timing, IsListed};
+ghost use Rattle.std.specs.Prelude.{ℕ};
+ghost use Rattle.timed_core.specs.Timing.{Timing, IsListed, Within, Quick};
 ghost use Rattle.timed_core.specs.Tale.{Tale};
 ghost use Rattle.timed_core.specs.Shape.{KeepsShape, NestsByLevels, NeverStuck};
+ghost use Rattle.timed_core.specs.Promises.{EachOnce, OpensInTurn, ClosesInTime, Ready, ComesOn, Listens, WorkOpens, NoOvertaking};
 
 /// After each number of steps the phase and the stack fit together.
 pub fn keeps_its_shape()
@@ -17,4 +19,44 @@ pub fn nests_by_levels()
 /// From each phase and stack that fit together a step is there, whatever has arrived.
 pub fn never_is_stuck()
     ensures { (p : Timing) → IsListed p → NeverStuck p }
+{}
+
+/// Each latch of an event has committed, or waits in its flag, or is under way.
+pub fn treats_each_once()
+    ensures { (p : Timing) (tale : Tale p) → EachOnce p tale }
+{}
+
+/// What opened has committed, but for the event whose window stands open.
+pub fn opens_in_turn()
+    ensures { (p : Timing) (tale : Tale p) → OpensInTurn p tale }
+{}
+
+/// Each open is followed by its commit in time, with no taking between.
+pub fn closes_in_time()
+    ensures { (p : Timing) (tale : Tale p) → ClosesInTime p tale }
+{}
+
+/// The boot ends in time, at rest, and doesn't come again.
+pub fn becomes_ready()
+    ensures { (p : Timing) (tale : Tale p) → Ready p tale }
+{}
+
+/// Past the boot interrupts are on at one of each `off + 1` boundaries.
+pub fn interrupts_come_on()
+    ensures { (p : Timing) (tale : Tale p) (off : ℕ) → Within p off → ComesOn p tale off }
+{}
+
+/// An event is heard at one of them, where no event of its own or a higher level is under way.
+pub fn listens_in_time()
+    ensures { (p : Timing) (tale : Tale p) (off : ℕ) → Within p off → Listens p tale off }
+{}
+
+/// Work opens within 16 steps.
+pub fn work_opens_in_time()
+    ensures { (p : Timing) (tale : Tale p) → Quick p → WorkOpens p tale }
+{}
+
+/// An event opens only after each more urgent one that was latched 16 boundaries before.
+pub fn none_overtakes()
+    ensures { (p : Timing) (tale : Tale p) → Quick p → NoOvertaking p tale }
 {}

@@ -7,4 +7,8 @@
 
 mod laws;
 
-pub use laws::{keeps_its_shape, nests_by_levels, never_is_stuck};
+pub use laws::{
+    becomes_ready, closes_in_time, interrupts_come_on, keeps_its_shape, listens_in_time,
+    nests_by_levels, never_is_stuck, none_overtakes, opens_in_turn, treats_each_once,
+    work_opens_in_time,
+};
