@@ -1,6 +1,6 @@
 -- What comes in time: where each step of a class lowers a number or meets a goal, the goal is met before the number is out.
 use Rattle.std.specs.Prelude.{ℕ, zero, suc, ◌+◌, ◌<◌, ◌≤◌, ◌⊎◌}
-use Rattle.std.proofs.Common.{◌≡◌, refl, subst, arith, inl, inr}
+use Rattle.std.proofs.Common.{◌≡◌, subst, arith, inl, inr}
 
 module _ (rank : ℕ → ℕ) (In Goal : ℕ → Type 0) (falls : (n : ℕ) → In n → Goal n ⊎ (In (suc n) × (rank (suc n) < rank n))) where
   abbrev pub Comes : ℕ → ℕ → Type 0

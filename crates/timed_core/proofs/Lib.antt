@@ -1,4 +1,6 @@
+pub mod BoundFacts
 pub mod ComesLaws
+pub mod FallFacts
 pub mod LiveLaws
 pub mod MoveLaws
 pub mod NestingLaws
@@ -6,5 +8,8 @@ pub mod OnLaws
 pub mod OnceLaws
 pub mod OpenLaws
 pub mod OvertakingLaws
+pub mod PotentialFacts
+pub mod SettleLaws
 pub mod ShapeLaws
+pub mod SumLaws
 pub mod WindowLaws

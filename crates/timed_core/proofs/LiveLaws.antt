@@ -11,7 +11,7 @@ use Rattle.timed_core.specs.Steps.Label.{Stays, Readies, Takes, Clears, Turns, L
 use Rattle.timed_core.specs.Shape.{Shape, StillSet, NeverStuck}
 
 -- A number stands in a list.
-abbrev In : ℕ → List ℕ → Type 0
+abbrev pub In : ℕ → List ℕ → Type 0
 In x xs = list_any (λ y. y == x) xs ≡ true
 
 counted_is_in : (x : ℕ) (xs : List ℕ) → 0 < count_by (λ y. y == x) xs → In x xs
@@ -23,7 +23,7 @@ counted_is_in x (y ∷ ys) h = by (y == x) (subst (λ n. 0 < n) (sum_by-cons (λ
     by false g rest = rest (omega arith)
 
 -- One of two, where the first element or the rest has it.
-in_parts : (x y : ℕ) (ys : List ℕ) → In x (y ∷ ys) → (y ≡ x) ⊎ In x ys
+pub in_parts : (x y : ℕ) (ys : List ℕ) → In x (y ∷ ys) → (y ≡ x) ⊎ In x ys
 in_parts x y ys h = by (y == x) refl h
   where
     by : (b : Bool) → (y == x) ≡ b → (b || list_any (λ z. z == x) ys) ≡ true → (y ≡ x) ⊎ In x ys
@@ -115,7 +115,7 @@ module _ (p : Timing) (flags : ℕ → Bool) where
       by (inr silent) (inr m) = inr (m.0, skip_most y m.0 ys silent m.1)
 
   module _ (listed : IsListed p) where
-    is_in : (x : ℕ) → 0 < p.level x → In x p.events
+    pub is_in : (x : ℕ) → 0 < p.level x → In x p.events
     is_in x h = counted_is_in x p.events (let e = listed x in grind (arith, nat_tests))
 
     -- The most urgent of all events, if any flag is set.
@@ -126,7 +126,7 @@ module _ (p : Timing) (flags : ℕ → Bool) where
         by (inl none) = inl (λ x c. none x (is_in x c.1) c)
         by (inr m) = inr (m.0, m.1.0, λ x e h other. m.1.1 x (is_in x h) (e, h) other)
 
-    not_below : (h x : ℕ) → Best p flags h → flags x ≡ true → 0 < p.level x → p.level x ≤ p.level h
+    pub not_below : (h x : ℕ) → Best p flags h → flags x ≡ true → 0 < p.level x → p.level x ≤ p.level h
     not_below h x b e above = by (same_or_not x h)
       where
         same_or_not : (a c : ℕ) → (a ≡ c) ⊎ (a ≢ c)

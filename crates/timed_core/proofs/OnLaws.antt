@@ -1,14 +1,13 @@
 -- The boot ends in time, and interrupts come on.
-use Rattle.std.specs.Prelude.{ℕ, zero, suc, ◌+◌, ◌-◌, ◌<◌, ◌≤◌, Bool, true, false, List, [], ◌∷◌, ◌⊎◌, if◌then◌else◌}
-use Rattle.std.proofs.Common.{◌≡◌, refl, sym, ap, subst, ◌∙◌, arith, inl, inr}
-use Rattle.timed_core.specs.Timing.{Timing, Within, Quick}
-use Rattle.timed_core.specs.Steps.{Run, Phase, Label, Above, locked, top_level, is_on}
+use Rattle.std.specs.Prelude.{ℕ, zero, suc, ◌+◌, ◌-◌, ◌<◌, ◌≤◌, Bool, true, false, List, ◌⊎◌, if◌then◌else◌}
+use Rattle.std.proofs.Common.{◌≡◌, refl, ap, subst, arith, inl, inr}
+use Rattle.timed_core.specs.Timing.{Timing, Within}
+use Rattle.timed_core.specs.Steps.{Run, Phase, Label, locked, is_on}
 use Rattle.timed_core.specs.Steps.Phase.{Boots, Rests, Works, Owes, Chooses, Begins, Repeats, Nears, Copies, Leaves}
-use Rattle.timed_core.specs.Steps.Label.{Delays, Slips, Stays, Readies, Takes, Clears, Turns, Locks, Opens, Puts, Commits, Returns}
 use Rattle.timed_core.specs.Tale.{Tale, now}
 use Rattle.timed_core.specs.Shape.{Shape}
 use Rattle.timed_core.specs.Promises.{Ready, ComesOn, is_boot}
-use Rattle.timed_core.proofs.MoveLaws.{Move, boots, boots_puts, readies, rests, rests_takes, rests_delays, works, works_takes, locks, works_delays, slips, owes_takes, chooses, clears, begins, turns, opens_short, repeats, turns_again, nears, opens, copies, copies_puts, commits, leaves, returns_home, returns}
+use Rattle.timed_core.proofs.MoveLaws.{Move, boots, boots_puts, readies, locks, owes_takes, chooses, clears, begins, turns, opens_short, repeats, turns_again, nears, opens, copies, copies_puts, commits, leaves, returns_home, returns}
 use Rattle.timed_core.proofs.ShapeLaws.{moves, shape_at}
 use Rattle.timed_core.proofs.ComesLaws.{comes}
 

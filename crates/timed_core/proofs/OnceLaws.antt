@@ -1,13 +1,13 @@
 -- Each latch is treated once: what is cleared goes on the stack, and what commits leaves it.
-use Rattle.std.specs.Prelude.{ℕ, zero, suc, ◌+◌, ◌<◌, ◌≤◌, ◌==◌, Bool, true, false, not, ◌&&◌, ◌||◌, List, [], ◌∷◌, ◌⊎◌}
-use Rattle.std.proofs.Common.{◌≡◌, refl, sym, ap, subst, ◌∙◌, arith, inl, inr}
+use Rattle.std.specs.Prelude.{ℕ, zero, suc, ◌+◌, ◌<◌, ◌≤◌, ◌==◌, Bool, true, false, not, ◌&&◌, ◌||◌, List, [], ◌∷◌}
+use Rattle.std.proofs.Common.{◌≡◌, refl, ap, subst, arith}
 use Rattle.std.proofs.lemmas.Bool.Decides.{nat_tests}
 use Rattle.timed_core.specs.Timing.{Timing}
 use Rattle.timed_core.specs.Steps.{Run, Phase, Label, voided, top_level}
 use Rattle.timed_core.specs.Tale.{Tale, now, is_clearing}
 use Rattle.timed_core.specs.Shape.{Tower}
-use Rattle.timed_core.specs.Counts.{one, count, latches, latched, cleared, committed, is_commit, runs_of}
-use Rattle.timed_core.specs.Promises.{Accounts, EachOnce}
+use Rattle.timed_core.specs.Counts.{one, latched, cleared, committed, is_commit, runs_of}
+use Rattle.timed_core.specs.Promises.{EachOnce}
 use Rattle.timed_core.proofs.MoveLaws.{Move, clears, commits}
 use Rattle.timed_core.proofs.ShapeLaws.{moves}
 use Rattle.timed_core.proofs.NestingLaws.{tower_at}

@@ -1,17 +1,15 @@
 -- Work opens in time, and what is not under way is heard.
-use Rattle.std.specs.Prelude.{ℕ, zero, suc, ◌+◌, ◌<◌, ◌≤◌, ◌==◌, Bool, true, false, not, ◌&&◌, ◌||◌, List, [], ◌∷◌, ◌⊎◌}
-use Rattle.std.proofs.Common.{◌≡◌, refl, sym, ap, subst, ◌∙◌, arith, inl, inr}
+use Rattle.std.specs.Prelude.{ℕ, suc, ◌+◌, ◌<◌, ◌≤◌, ◌==◌, Bool, true, false, not, ◌&&◌, ◌||◌, List, [], ◌∷◌, ◌⊎◌}
+use Rattle.std.proofs.Common.{◌≡◌, refl, arith, inl, inr}
 use Rattle.std.proofs.lemmas.Bool.Decides.{nat_tests}
 use Rattle.timed_core.specs.Timing.{Timing, Within, Quick}
-use Rattle.timed_core.specs.Steps.{Run, Phase, Label, Above, locked, top_level, is_on}
-use Rattle.timed_core.specs.Steps.Phase.{Boots, Rests, Works, Owes, Chooses, Begins, Repeats, Nears, Copies, Leaves}
-use Rattle.timed_core.specs.Steps.Label.{Delays, Slips, Stays, Readies, Takes, Clears, Turns, Locks, Opens, Puts, Commits, Returns}
+use Rattle.timed_core.specs.Steps.{Run, Phase, Label, locked, top_level, is_on}
+use Rattle.timed_core.specs.Steps.Phase.{Rests, Works, Owes, Begins, Repeats, Nears}
 use Rattle.timed_core.specs.Tale.{Tale, now}
-use Rattle.timed_core.specs.Shape.{Shape}
 use Rattle.timed_core.specs.Counts.{one, runs_of}
-use Rattle.timed_core.specs.Promises.{WorkOpens, Listens, is_taking, is_clear_step, is_open_step, is_boot}
-use Rattle.timed_core.proofs.MoveLaws.{Move, boots, boots_puts, readies, rests, rests_takes, rests_delays, works, works_takes, locks, works_delays, slips, owes_takes, chooses, clears, begins, turns, opens_short, repeats, turns_again, nears, opens, copies, copies_puts, commits, leaves, returns_home, returns}
-use Rattle.timed_core.proofs.ShapeLaws.{moves, shape_at}
+use Rattle.timed_core.specs.Promises.{WorkOpens, Listens, is_taking, is_clear_step, is_open_step}
+use Rattle.timed_core.proofs.MoveLaws.{Move, boots, boots_puts, readies, rests, rests_delays, works, locks, works_delays, slips, owes_takes, chooses, clears, begins, turns, opens_short, repeats, turns_again, nears, opens, copies, copies_puts, commits, leaves, returns_home, returns}
+use Rattle.timed_core.proofs.ShapeLaws.{moves}
 use Rattle.timed_core.proofs.ComesLaws.{comes}
 use Rattle.timed_core.proofs.OnLaws.{comes_on}
 

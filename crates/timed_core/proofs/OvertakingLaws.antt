@@ -1,16 +1,15 @@
 -- None overtakes: at the lock no more urgent event waits, and its window opens soon.
-use Rattle.std.specs.Prelude.{ℕ, zero, suc, ◌+◌, ◌-◌, ◌<◌, ◌≤◌, Bool, true, false, not, ◌&&◌, ◌||◌, List, [], ◌∷◌, ◌⊎◌}
-use Rattle.std.proofs.Common.{◌≡◌, refl, sym, ap, subst, ◌∙◌, arith, inl, inr}
-use Rattle.timed_core.specs.Timing.{Timing, Within, Quick}
-use Rattle.timed_core.specs.Steps.{Run, Phase, Label, Above, locked, top_level, is_on}
-use Rattle.timed_core.specs.Steps.Phase.{Boots, Rests, Works, Owes, Chooses, Begins, Repeats, Nears, Copies, Leaves}
-use Rattle.timed_core.specs.Steps.Label.{Delays, Slips, Stays, Readies, Takes, Clears, Turns, Locks, Opens, Puts, Commits, Returns}
+use Rattle.std.specs.Prelude.{ℕ, zero, suc, ◌+◌, ◌-◌, ◌<◌, ◌≤◌, Bool, true, false, not, ◌&&◌, ◌||◌, List, ◌∷◌}
+use Rattle.std.proofs.Common.{◌≡◌, refl, ap, arith}
+use Rattle.timed_core.specs.Timing.{Timing, Quick}
+use Rattle.timed_core.specs.Steps.{Run, Phase, Label, Above, locked, top_level}
+use Rattle.timed_core.specs.Steps.Phase.{Nears}
+use Rattle.timed_core.specs.Steps.Label.{Opens}
 use Rattle.timed_core.specs.Tale.{Tale, now}
-use Rattle.timed_core.specs.Counts.{one, count, latches, latched, committed, runs_of}
-use Rattle.timed_core.specs.Shape.{Shape}
+use Rattle.timed_core.specs.Counts.{one, count, latches, latched, committed}
 use Rattle.timed_core.specs.Promises.{NoOvertaking}
-use Rattle.timed_core.proofs.MoveLaws.{Move, boots, boots_puts, readies, rests, rests_takes, rests_delays, works, works_takes, locks, works_delays, slips, owes_takes, chooses, clears, begins, turns, opens_short, repeats, turns_again, nears, opens, copies, copies_puts, commits, leaves, returns_home, returns}
-use Rattle.timed_core.proofs.ShapeLaws.{moves, shape_at}
+use Rattle.timed_core.proofs.MoveLaws.{Move, locks, opens_short, nears, opens}
+use Rattle.timed_core.proofs.ShapeLaws.{moves}
 use Rattle.timed_core.proofs.NestingLaws.{tower_at}
 use Rattle.timed_core.proofs.OnceLaws.{each_once, none_above}
 

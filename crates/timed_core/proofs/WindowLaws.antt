@@ -1,12 +1,12 @@
 -- Windows open and close in turn, each in time.
-use Rattle.std.specs.Prelude.{ℕ, zero, suc, ◌+◌, ◌<◌, ◌≤◌, Bool, true, false, List, [], ◌∷◌, ◌++◌, ◌⊎◌}
-use Rattle.std.proofs.Common.{◌≡◌, refl, sym, ap, ap₂, subst, ◌∙◌, append_assoc, append-nil, arith, inl, inr}
+use Rattle.std.specs.Prelude.{ℕ, zero, suc, ◌<◌, Bool, true, false, List, [], ◌∷◌, ◌++◌, ◌⊎◌}
+use Rattle.std.proofs.Common.{◌≡◌, refl, sym, ap, ◌∙◌, append_assoc, append-nil, arith, inl, inr}
 use Rattle.timed_core.specs.Timing.{Timing}
 use Rattle.timed_core.specs.Steps.{Run, Phase, Label, locked}
-use Rattle.timed_core.specs.Steps.Phase.{Boots, Rests, Works, Owes, Chooses, Begins, Repeats, Nears, Copies, Leaves}
-use Rattle.timed_core.specs.Steps.Label.{Delays, Slips, Stays, Readies, Takes, Clears, Turns, Locks, Opens, Puts, Commits, Returns}
+use Rattle.timed_core.specs.Steps.Phase.{Copies}
+use Rattle.timed_core.specs.Steps.Label.{Opens, Commits}
 use Rattle.timed_core.specs.Tale.{Tale, now}
-use Rattle.timed_core.specs.Counts.{opened_by, committed_by, opens, commits, top_event, window}
+use Rattle.timed_core.specs.Counts.{opened_by, committed_by, commits, top_event, window}
 use Rattle.timed_core.specs.Promises.{OpensInTurn, ClosesInTime, is_taking}
 use Rattle.timed_core.proofs.MoveLaws.{Move, locks, copies, copies_puts, opens as its_opens, opens_short, commits as its_commits}
 use Rattle.timed_core.proofs.ShapeLaws.{moves}

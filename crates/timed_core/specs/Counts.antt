@@ -1,5 +1,5 @@
 -- What is counted over a tale: latches, clearings and commits of an event, its runs under way, and windows.
-use Rattle.std.specs.Prelude.{◌≡◌, ℕ, zero, suc, ◌+◌, ◌≤◌, Bool, true, false, ◌&&◌, ◌==◌, not, List, [], ◌∷◌, ◌++◌, if◌then◌else◌}
+use Rattle.std.specs.Prelude.{ℕ, zero, suc, ◌+◌, Bool, false, ◌&&◌, ◌==◌, not, List, [], ◌∷◌, ◌++◌, if◌then◌else◌}
 use Rattle.timed_core.specs.Timing.{Timing}
 use Rattle.timed_core.specs.Steps.{Run, Phase, Label}
 use Rattle.timed_core.specs.Steps.Phase.{Copies}

@@ -1,8 +1,8 @@
 -- What every tale keeps: each latch is treated once, windows open and close in turn, the boot ends, interrupts come on,
 -- events are heard, work opens, and none overtakes a more urgent one.
-use Rattle.std.specs.Prelude.{◌≡◌, ℕ, ◌+◌, ◌-◌, ◌<◌, ◌≤◌, Bool, true, false, ◌&&◌, ◌||◌, not, List, ◌++◌}
+use Rattle.std.specs.Prelude.{◌≡◌, ℕ, ◌+◌, ◌-◌, ◌<◌, ◌≤◌, Bool, true, false, ◌&&◌, ◌||◌, not, ◌++◌}
 use Rattle.timed_core.specs.Timing.{Timing}
-use Rattle.timed_core.specs.Steps.{Run, Phase, Label, is_on, top_level}
+use Rattle.timed_core.specs.Steps.{Phase, Label, is_on, top_level}
 use Rattle.timed_core.specs.Steps.Phase.{Boots, Rests}
 use Rattle.timed_core.specs.Steps.Label.{Takes, Clears, Opens, Commits}
 use Rattle.timed_core.specs.Tale.{Tale}

@@ -1,5 +1,5 @@
 -- Events, their levels, and bounds in steps on the code that treats them.
-use Rattle.std.specs.Prelude.{◌≡◌, ℕ, ◌+◌, ◌*◌, ◌<◌, ◌≤◌, ◌==◌, Bool, true, List, count_by, nat_lt, if◌then◌else◌}
+use Rattle.std.specs.Prelude.{◌≡◌, ℕ, ◌+◌, ◌*◌, ◌≤◌, ◌==◌, Bool, true, List, count_by, nat_lt, if◌then◌else◌}
 
 -- Events are numbers, listed in declaration order. The level of an event is its priority, from 1; all other numbers have
 -- level 0. Each bound on a phase means the present step and at most so many more.

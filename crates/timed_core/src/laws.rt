@@ -5,6 +5,7 @@ ghost use Rattle.timed_core.specs.Timing.{Timing, IsListed, Within, Quick};
 ghost use Rattle.timed_core.specs.Tale.{Tale};
 ghost use Rattle.timed_core.specs.Shape.{KeepsShape, NestsByLevels, NeverStuck};
 ghost use Rattle.timed_core.specs.Promises.{EachOnce, OpensInTurn, ClosesInTime, Ready, ComesOn, Listens, WorkOpens, NoOvertaking};
+ghost use Rattle.timed_core.specs.Settling.{Settles};
 
 /// After each number of steps the phase and the stack fit together.
 pub fn keeps_its_shape()
@@ -59,4 +60,9 @@ pub fn work_opens_in_time()
 /// An event opens only after each more urgent one that was latched 16 boundaries before.
 pub fn none_overtakes()
     ensures { (p : Timing) (tale : Tale p) → Quick p → NoOvertaking p tale }
+{}
+
+/// All have reacted where no source has arrived for long enough.
+pub fn all_react_in_time()
+    ensures { (p : Timing) (tale : Tale p) (off : ℕ) → IsListed p → Within p off → Settles p tale off }
 {}

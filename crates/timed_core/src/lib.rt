@@ -8,7 +8,7 @@
 mod laws;
 
 pub use laws::{
-    becomes_ready, closes_in_time, interrupts_come_on, keeps_its_shape, listens_in_time,
-    nests_by_levels, never_is_stuck, none_overtakes, opens_in_turn, treats_each_once,
-    work_opens_in_time,
+    all_react_in_time, becomes_ready, closes_in_time, interrupts_come_on, keeps_its_shape,
+    listens_in_time, nests_by_levels, never_is_stuck, none_overtakes, opens_in_turn,
+    treats_each_once, work_opens_in_time,
 };
