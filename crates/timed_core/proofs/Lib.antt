@@ -1,5 +1,7 @@
+pub mod AccountLaws
 pub mod BoundFacts
 pub mod ComesLaws
+pub mod DebtFacts
 pub mod FallFacts
 pub mod LiveLaws
 pub mod MoveLaws
@@ -11,5 +13,6 @@ pub mod OvertakingLaws
 pub mod PotentialFacts
 pub mod SettleLaws
 pub mod ShapeLaws
+pub mod ShareFacts
 pub mod SumLaws
 pub mod WindowLaws

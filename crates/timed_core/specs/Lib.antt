@@ -1,5 +1,6 @@
 pub mod Counts
 pub mod Promises
+pub mod Response
 pub mod Settling
 pub mod Shape
 pub mod Steps

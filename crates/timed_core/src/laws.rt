@@ -6,6 +6,7 @@ ghost use Rattle.timed_core.specs.Tale.{Tale};
 ghost use Rattle.timed_core.specs.Shape.{KeepsShape, NestsByLevels, NeverStuck};
 ghost use Rattle.timed_core.specs.Promises.{EachOnce, OpensInTurn, ClosesInTime, Ready, ComesOn, Listens, WorkOpens, NoOvertaking};
 ghost use Rattle.timed_core.specs.Settling.{Settles};
+ghost use Rattle.timed_core.specs.Response.{Accounted, AccountedFromBoot};
 
 /// After each number of steps the phase and the stack fit together.
 pub fn keeps_its_shape()
@@ -65,4 +66,14 @@ pub fn none_overtakes()
 /// All have reacted where no source has arrived for long enough.
 pub fn all_react_in_time()
     ensures { (p : Timing) (tale : Tale p) (off : ℕ) → IsListed p → Within p off → Settles p tale off }
+{}
+
+/// An event waits no longer than its response and what the others cost.
+pub fn accounts_for_waiting()
+    ensures { (p : Timing) (tale : Tale p) (off : ℕ) → IsListed p → Within p off → Accounted p tale off }
+{}
+
+/// From a latch in the boot, no longer after the boot.
+pub fn accounts_from_boot()
+    ensures { (p : Timing) (tale : Tale p) (off : ℕ) → IsListed p → Within p off → AccountedFromBoot p tale off }
 {}
