@@ -11,6 +11,7 @@ pub mod OnceLaws
 pub mod OpenLaws
 pub mod OvertakingLaws
 pub mod PotentialFacts
+pub mod ResponseLaws
 pub mod SettleLaws
 pub mod ShapeLaws
 pub mod ShareFacts

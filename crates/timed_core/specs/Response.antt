@@ -1,9 +1,9 @@
 -- The account of what an event waits for, and so the time of its response.
-use Rattle.std.specs.Prelude.{◌≡◌, ℕ, zero, suc, ◌+◌, ◌-◌, ◌*◌, ◌<◌, ◌≤◌, ◌==◌, Bool, true, false, ◌&&◌, not, max, nat_le, List, [], ◌∷◌, sum_by, if◌then◌else◌}
+use Rattle.std.specs.Prelude.{◌≡◌, ◌≢◌, ℕ, zero, suc, ◌+◌, ◌-◌, ◌*◌, ◌<◌, ◌≤◌, ◌==◌, Bool, true, false, ◌&&◌, not, max, nat_le, List, [], ◌∷◌, sum_by, if◌then◌else◌}
 use Rattle.std.specs.List.{list_any}
 use Rattle.timed_core.specs.Timing.{Timing}
 use Rattle.timed_core.specs.Tale.{Tale}
-use Rattle.timed_core.specs.Counts.{latches, latched, committed}
+use Rattle.timed_core.specs.Counts.{latches, latched, committed, runs_of}
 use Rattle.timed_core.specs.Promises.{is_boot}
 
 -- In steps: from a latch of an event to its commit, where nothing of its own or a higher level is about.
@@ -45,3 +45,14 @@ Accounted p tale off = (e b n : ℕ) → Awaits p tale e b n → is_boot (tale.p
 
 abbrev pub AccountedFromBoot : (p : Timing) → Tale p → ℕ → Type 0
 AccountedFromBoot p tale off = (e b n : ℕ) → Awaits p tale e b n → n ≤ b + p.boot + 2 + response p off e + others p tale off e b n
+
+-- Where an event is latched past the boot, none of its own or a higher level waits or is under way there, and no other such
+-- event is latched until it commits, it commits within its response.
+pub record IsAlone (p : Timing) (tale : Tale p) (e b : ℕ) : Type 0 where
+  pub latch : latches tale e b ≡ true
+  pub past : is_boot (tale.phase b) ≡ false
+  pub none_about : (h : ℕ) → p.level e ≤ p.level h → (tale.flags b h ≡ false) × (runs_of h (tale.stack b) ≡ 0)
+  pub none_since : (h k : ℕ) → h ≢ e → p.level e ≤ p.level h → b ≤ k → committed tale e k ≡ committed tale e b → latches tale h k ≡ false
+
+abbrev pub Responds : (p : Timing) → Tale p → ℕ → Type 0
+Responds p tale off = (e b : ℕ) → IsAlone p tale e b → committed tale e b < committed tale e (b + response p off e + 1)

@@ -1,0 +1,2 @@
+pub mod GoesFacts
+pub mod SerialLaws

@@ -1,0 +1,9 @@
+// The theorem about lists of steps.
+
+ghost use Rattle.preempt_core.specs.Serial.{AlwaysLawful};
+
+/// After each list of allowed steps priorities rise, each latch was treated once, and the state is that of one serial run of
+/// the reactions to the events that committed, though each run reacted to what it had read when it last began.
+pub fn commits_are_serial()
+    ensures { AlwaysLawful }
+{}
