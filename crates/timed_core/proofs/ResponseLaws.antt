@@ -1,13 +1,13 @@
 -- The response: an event that is alone commits in time.
-use Rattle.std.specs.Prelude.{ℕ, zero, suc, ◌+◌, ◌-◌, ◌*◌, ◌<◌, ◌≤◌, ◌≢◌, ◌==◌, Bool, true, false, ◌&&◌, ◌||◌, not, List, [], ◌∷◌, ◌⊎◌, if◌then◌else◌, nat_le}
-use Rattle.std.proofs.Common.{◌≡◌, refl, sym, ap, subst, ◌∙◌, arith, inl, inr}
+use Rattle.std.specs.Prelude.{ℕ, zero, suc, ◌+◌, ◌-◌, ◌*◌, ◌<◌, ◌≤◌, ◌≢◌, ◌==◌, Bool, true, false, not, List, [], ◌∷◌, ◌⊎◌, nat_le}
+use Rattle.std.proofs.Common.{◌≡◌, refl, sym, ap, arith, inl, inr}
 use Rattle.timed_core.specs.Timing.{Timing, IsListed, Within}
 use Rattle.timed_core.specs.Tale.{Tale}
-use Rattle.timed_core.specs.Counts.{one, count, latches, latched, committed, is_commit, runs_of}
-use Rattle.timed_core.specs.Response.{response, restarts, cost, is_other, others, Awaits, Accounted, IsAlone, Responds}
+use Rattle.timed_core.specs.Counts.{one, count, latches, latched, committed, is_commit}
+use Rattle.timed_core.specs.Response.{response, cost, is_other, Awaits, IsAlone, Responds}
 use Rattle.timed_core.proofs.OnceLaws.{each_once}
 use Rattle.timed_core.proofs.OvertakingLaws.{count_grows}
-use Rattle.timed_core.proofs.SumLaws.{total, total_le, total_is_sum, weigh, both_parts}
+use Rattle.timed_core.proofs.SumLaws.{total, total_is_sum, weigh, both_parts}
 use Rattle.timed_core.proofs.DebtFacts.{le_of, eq_test}
 use Rattle.timed_core.proofs.AccountLaws.{accounted}
 
@@ -43,6 +43,7 @@ module _ (p : Timing) (listed : IsListed p) (tale : Tale p) (off : ℕ) (w : Wit
             clash : (v : Bool) → v ≡ true → v ≡ false → ⊥
             clash true x y = absurd cc
             clash false x y = absurd cc
+
         by : (v : Bool) → is_other p e h ≡ v → weigh v ((latched tale h end - committed tale h b) * cost p off e h) ≡ 0
         by false it = refl
         by true it =
@@ -75,6 +76,7 @@ module _ (p : Timing) (listed : IsListed p) (tale : Tale p) (off : ℕ) (w : Wit
     where
       less_or_same : (m n : ℕ) → m ≤ n → (m < n) ⊎ (n ≡ m)
       less_or_same m n h = grind arith
+
       by : (committed tale e b < committed tale e end) ⊎ (committed tale e end ≡ committed tale e b) → committed tale e b < committed tale e end
       by (inl h) = h
       by (inr same) = absurd (too_late same)

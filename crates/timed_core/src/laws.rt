@@ -6,7 +6,7 @@ ghost use Rattle.timed_core.specs.Tale.{Tale};
 ghost use Rattle.timed_core.specs.Shape.{KeepsShape, NestsByLevels, NeverStuck};
 ghost use Rattle.timed_core.specs.Promises.{EachOnce, OpensInTurn, ClosesInTime, Ready, ComesOn, Listens, WorkOpens, NoOvertaking};
 ghost use Rattle.timed_core.specs.Settling.{Settles};
-ghost use Rattle.timed_core.specs.Response.{Accounted, AccountedFromBoot};
+ghost use Rattle.timed_core.specs.Response.{Accounted, AccountedFromBoot, Responds};
 
 /// After each number of steps the phase and the stack fit together.
 pub fn keeps_its_shape()
@@ -76,4 +76,9 @@ pub fn accounts_for_waiting()
 /// From a latch in the boot, no longer after the boot.
 pub fn accounts_from_boot()
     ensures { (p : Timing) (tale : Tale p) (off : ℕ) → IsListed p → Within p off → AccountedFromBoot p tale off }
+{}
+
+/// An event that is alone commits within its response.
+pub fn responds_in_time()
+    ensures { (p : Timing) (tale : Tale p) (off : ℕ) → IsListed p → Within p off → Responds p tale off }
 {}

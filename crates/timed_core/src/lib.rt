@@ -10,5 +10,5 @@ mod laws;
 pub use laws::{
     accounts_for_waiting, accounts_from_boot, all_react_in_time, becomes_ready, closes_in_time,
     interrupts_come_on, keeps_its_shape, listens_in_time, nests_by_levels, never_is_stuck,
-    none_overtakes, opens_in_turn, treats_each_once, work_opens_in_time,
+    none_overtakes, opens_in_turn, responds_in_time, treats_each_once, work_opens_in_time,
 };
