@@ -10,7 +10,7 @@ use Rattle.preempt_core.specs.Runs.{Active, Told, priority, top_priority, more_u
 pub data Goes (priorities : List ℕ) (react : List ℕ → ℕ → List ℕ) (t : Told) : Told → Type 0 where
   latches : {e : ℕ} → t.latched e ≡ false → Goes priorities react t (record t { answers = answers.Latched e ∷ t.answers; latched = with_latch t.latched e true })
   merges : {e : ℕ} → t.latched e ≡ true → Goes priorities react t (answer t (answers.Merged e))
-  takes : {e : ℕ} → t.latched e ≡ true → top_priority priorities t.stack < priority priorities e
+  takes : {e : ℕ} → is_left t.stack ≡ false → t.latched e ≡ true → top_priority priorities t.stack < priority priorities e
       → Goes priorities react t (record t { answers = answers.Took e ∷ t.answers; latched = with_latch t.latched e false; stack = begins t e ∷ t.stack })
   works : Goes priorities react t (answer t answers.Worked)
   redoes : {r : Active} {rs : List Active} → t.stack ≡ r ∷ rs → r.committed ≡ false
@@ -54,18 +54,18 @@ module _ (priorities : List ℕ) (react : List ℕ → ℕ → List ℕ) (t : To
       by true it = here (t.latched e) refl it
       by false it = absurd cc
 
-  taken_goes : (best : Option ℕ) (u : Told) → ((e : ℕ) → best ≡ Some e → t.latched e ≡ true) → taken priorities t best ≡ Some u → Goes priorities react t u
-  taken_goes None u waits h = absurd cc
-  taken_goes (Some e) u waits h = by (nat_lt (top_priority priorities t.stack) (priority priorities e)) refl h
+  taken_goes : (best : Option ℕ) (u : Told) → is_left t.stack ≡ false → ((e : ℕ) → best ≡ Some e → t.latched e ≡ true) → taken priorities t best ≡ Some u → Goes priorities react t u
+  taken_goes None u stands waits h = absurd cc
+  taken_goes (Some e) u stands waits h = by (nat_lt (top_priority priorities t.stack) (priority priorities e)) refl h
     where
       by : (b : Bool) → nat_lt (top_priority priorities t.stack) (priority priorities e) ≡ b
           → (if b then Some (record t { answers = answers.Took e ∷ t.answers; latched = with_latch t.latched e false; stack = begins t e ∷ t.stack }) else None) ≡ Some u → Goes priorities react t u
-      by true up it = to it (takes (waits e refl) (lt_of _ _ up))
+      by true up it = to it (takes stands (waits e refl) (lt_of _ _ up))
       by false low it = absurd cc
 
-  take_goes : (left : Bool) (best : Option ℕ) (u : Told) → ((e : ℕ) → best ≡ Some e → t.latched e ≡ true) → (if left then None else taken priorities t best) ≡ Some u → Goes priorities react t u
-  take_goes true best u waits h = absurd cc
-  take_goes false best u waits h = taken_goes best u waits h
+  take_goes : (left : Bool) (best : Option ℕ) (u : Told) → is_left t.stack ≡ left → ((e : ℕ) → best ≡ Some e → t.latched e ≡ true) → (if left then None else taken priorities t best) ≡ Some u → Goes priorities react t u
+  take_goes true best u stands waits h = absurd cc
+  take_goes false best u stands waits h = taken_goes best u stands waits h
 
   not_committed : (a b : Bool) → (a && not b) ≡ true → b ≡ false
   not_committed a false h = refl
@@ -104,7 +104,7 @@ module _ (priorities : List ℕ) (react : List ℕ → ℕ → List ℕ) (t : To
 
   pub goes : (s : Step) (u : Told) → step_from priorities react t s ≡ Some u → Goes priorities react t u
   goes (steps.Arrive e) u h = arrived_goes e u h
-  goes steps.Take u h = take_goes (is_left t.stack) (most_urgent priorities t.latched (length priorities)) u (urgent_waits priorities t.latched (length priorities)) h
+  goes steps.Take u h = take_goes (is_left t.stack) (most_urgent priorities t.latched (length priorities)) u refl (urgent_waits priorities t.latched (length priorities)) h
   goes steps.Work u h = top_goes steps.Work t.stack u refl h
   goes steps.Redo u h = top_goes steps.Redo t.stack u refl h
   goes steps.Commit u h = top_goes steps.Commit t.stack u refl h

@@ -1,2 +1,3 @@
 pub mod GoesFacts
+pub mod MarkLaws
 pub mod SerialLaws

@@ -72,7 +72,7 @@ module _ (priorities : List ℕ) (react : List ℕ → ℕ → List ℕ) (first 
         lawful = record { rising = k.lawful.rising; once = λ x. omega (arith, k.lawful.once x); present = k.lawful.present; is_serial = k.lawful.is_serial };
         began = began_later (length t.answers) t.stack k.began;
       }
-  kept t u (takes {e = e} set up) k =
+  kept t u (takes {e = e} stands set up) k =
       record {
         lawful = record {
           rising = (up, k.lawful.rising);

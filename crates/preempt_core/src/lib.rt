@@ -5,5 +5,5 @@
 mod laws;
 mod steps;
 
-pub use laws::commits_are_serial;
+pub use laws::{commits_are_serial, marks_look_back};
 pub use steps::{Done, Step};
