@@ -16,9 +16,9 @@ use Rattle.timed_core.proofs.ShapeLaws.{moves, shape_at, still_at, keeps_shape}
 use Rattle.timed_core.proofs.NestingLaws.{tower_at}
 use Rattle.timed_core.proofs.OnceLaws.{each_once, none_above}
 use Rattle.timed_core.proofs.OvertakingLaws.{count_grows}
-use Rattle.timed_core.proofs.SumLaws.{total, total_le, total_add, total_is_sum, weigh}
+use Rattle.timed_core.proofs.SumLaws.{total, total_le, total_add, total_is_sum, weigh, eq_of, less_or_not, gone}
 use Rattle.timed_core.proofs.PotentialFacts.{taking}
-use Rattle.timed_core.proofs.DebtFacts.{weigh_num, eq_of, less_or_not, heavy, latch_cost, waits, debt, Waiting, debt_falls, no_restarts}
+use Rattle.timed_core.proofs.DebtFacts.{weigh_num, heavy, latch_cost, waits, debt, Waiting, debt_falls, no_restarts}
 use Rattle.timed_core.proofs.ShareFacts.{share, shares, shared, shared_in_boot, debt_floor, debt_and_flag}
 
 module _ (p : Timing) (off e : ℕ) where
@@ -43,11 +43,6 @@ module _ (p : Timing) (off e : ℕ) where
   latch_added true a false m k = omega arith
   latch_added false true false m k = omega arith
   latch_added false false false m k = omega arith
-
-  gone : (g b c : Bool) → g ≡ (b && not c) → c ≡ true → g ≡ false
-  gone g true true e set = e
-  gone g false true e set = e
-  gone g b false e set = absurd cc
 
   kept : (g b c : Bool) → g ≡ (b && not c) → g ≡ true → b ≡ true
   kept g true c e set = refl

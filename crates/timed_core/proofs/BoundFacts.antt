@@ -6,7 +6,7 @@ use Rattle.timed_core.specs.Timing.{Timing, IsListed}
 use Rattle.timed_core.specs.Steps.{Run, Phase, top_level}
 use Rattle.timed_core.specs.Steps.Phase.{Boots, Rests, Works, Owes, Chooses, Begins, Repeats, Nears, Copies, Leaves}
 use Rattle.timed_core.specs.Shape.{Tower, Shape}
-use Rattle.timed_core.proofs.SumLaws.{total, total_le, total_add, total_pick, weigh, weigh_le, weigh_most, weigh_all, weigh_none, both_parts}
+use Rattle.timed_core.proofs.SumLaws.{total, total_le, total_add, total_pick, weigh, weigh_le, weigh_most, weigh_all, weigh_none, both_parts, le_test, le_of}
 use Rattle.timed_core.proofs.PotentialFacts.{taking, again, commit, flag_cost, owed, calls, has_news, suspended, above_owed, potential, listed_in}
 
 module _ (p : Timing) (listed : IsListed p) where
@@ -23,12 +23,6 @@ module _ (p : Timing) (listed : IsListed p) where
 
   abbrev pub all_flags : ℕ
   all_flags = total (flag_cost p) p.events
-
-  le_test : (a b : ℕ) → a ≤ b → nat_le a b ≡ true
-  le_test a b h = grind (arith, nat_tests)
-
-  le_of : (a b : ℕ) → nat_le a b ≡ true → a ≤ b
-  le_of a b h = grind (arith, nat_tests)
 
   -- One more event, above a level, owes its run beside those up to that level.
   one_more : (m e : ℕ) → m < p.level e → upto m + run_cost e ≤ upto (p.level e)

@@ -2,7 +2,6 @@
 use Rattle.std.specs.Prelude.{ℕ, zero, suc, ◌+◌, ◌-◌, ◌<◌, ◌≤◌, ◌==◌, Bool, true, false, ◌&&◌, not, List, [], ◌∷◌, ◌⊎◌, nat_le}
 use Rattle.std.specs.List.{list_any}
 use Rattle.std.proofs.Common.{◌≡◌, refl, ap, subst, arith, inl, inr}
-use Rattle.std.proofs.lemmas.Bool.Decides.{nat_tests}
 use Rattle.timed_core.specs.Timing.{Timing, IsListed, Within}
 use Rattle.timed_core.specs.Steps.{Run, Phase, Label, Above, Best, locked, voided, top_level, fresh}
 use Rattle.timed_core.specs.Steps.Phase.{Boots, Rests, Works, Owes, Chooses, Begins, Repeats, Nears, Copies, Leaves}
@@ -11,7 +10,7 @@ use Rattle.timed_core.specs.Shape.{Tower, IsEmpty, Shape, StillSet}
 use Rattle.timed_core.specs.Response.{peak, restarts}
 use Rattle.timed_core.proofs.MoveLaws.{Move, boots, boots_puts, readies, rests, rests_takes, rests_delays, works, works_takes, locks, works_delays, slips, owes_takes, chooses, clears, begins, turns, opens_short, repeats, turns_again, nears, opens, copies, copies_puts, commits, leaves, returns_home, returns}
 use Rattle.timed_core.proofs.LiveLaws.{In, in_parts, not_below}
-use Rattle.timed_core.proofs.SumLaws.{total, total_le, total_pick, weigh, weigh_le, weigh_most, weigh_all, weigh_none, any_at, any_gives, any_le, both, both_parts}
+use Rattle.timed_core.proofs.SumLaws.{total, total_le, total_pick, weigh, weigh_le, weigh_most, weigh_all, weigh_none, any_at, any_gives, any_le, both, both_parts, le_test, le_of, eq_test, less_or_not}
 use Rattle.timed_core.proofs.PotentialFacts.{taking, again, commit, listed_in}
 
 pub weigh_num : (b : Bool) (m n : ℕ) → m ≤ n → weigh b m ≤ weigh b n
@@ -26,21 +25,6 @@ weigh_not false c n h = weigh_most (not c) n
 pub not_weighed : (b : Bool) (n : ℕ) → b ≡ true → weigh (not b) n ≡ 0
 not_weighed true n h = refl
 not_weighed false n h = absurd cc
-
-pub le_test : (a b : ℕ) → a ≤ b → nat_le a b ≡ true
-le_test a b h = grind (arith, nat_tests)
-
-pub le_of : (a b : ℕ) → nat_le a b ≡ true → a ≤ b
-le_of a b h = grind (arith, nat_tests)
-
-pub eq_test : (a b : ℕ) → a ≡ b → (a == b) ≡ true
-eq_test a b h = grind (arith, nat_tests)
-
-pub eq_of : (a b : ℕ) → (a == b) ≡ true → a ≡ b
-eq_of a b h = grind (arith, nat_tests)
-
-pub less_or_not : (a b : ℕ) → (a < b) ⊎ (b ≤ a)
-less_or_not a b = grind arith
 
 module _ (p : Timing) (off e : ℕ) where
   -- Of the event's own or a higher level.

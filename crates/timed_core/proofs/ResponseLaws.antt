@@ -7,8 +7,7 @@ use Rattle.timed_core.specs.Counts.{one, count, latches, latched, committed, is_
 use Rattle.timed_core.specs.Response.{response, cost, is_other, Awaits, IsAlone, Responds}
 use Rattle.timed_core.proofs.OnceLaws.{each_once}
 use Rattle.timed_core.proofs.OvertakingLaws.{count_grows}
-use Rattle.timed_core.proofs.SumLaws.{total, total_is_sum, weigh, both_parts}
-use Rattle.timed_core.proofs.DebtFacts.{le_of, eq_test}
+use Rattle.timed_core.proofs.SumLaws.{total, total_is_sum, weigh, both_parts, le_of, eq_test}
 use Rattle.timed_core.proofs.AccountLaws.{accounted}
 
 -- A count stays where no boundary passes its test.

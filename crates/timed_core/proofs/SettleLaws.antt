@@ -8,7 +8,7 @@ use Rattle.timed_core.specs.Tale.{Tale, now, is_clearing}
 use Rattle.timed_core.specs.Settling.{settle_steps, Settles}
 use Rattle.timed_core.proofs.MoveLaws.{Move, rests, rests_takes, rests_delays}
 use Rattle.timed_core.proofs.ShapeLaws.{moves, shape_at, keeps_shape}
-use Rattle.timed_core.proofs.SumLaws.{total_le, total_add, total_is_sum}
+use Rattle.timed_core.proofs.SumLaws.{total_le, total_add, total_is_sum, gone}
 use Rattle.timed_core.proofs.PotentialFacts.{taking, again, flag_cost, potential}
 use Rattle.timed_core.proofs.FallFacts.{Done, falls, high}
 use Rattle.timed_core.proofs.BoundFacts.{run_cost, all_runs, all_flags, bounded}
@@ -38,11 +38,6 @@ module _ (p : Timing) (listed : IsListed p) (tale : Tale p) where
   kept_set g true a c e none set = refl
   kept_set g false true c e none set = absurd cc
   kept_set g false false c e none set = absurd cc
-
-  gone : (g b : Bool) (c : Bool) → g ≡ (b && not c) → c ≡ true → g ≡ false
-  gone g true true e set = e
-  gone g false true e set = e
-  gone g b false e set = absurd cc
 
   less : (n : ℕ) → Silent n → (x : ℕ) → tale.flags (suc n) x ≡ true → tale.flags n x ≡ true
   less n silent x set = kept_set (tale.flags (suc n) x) (tale.flags n x) (tale.arrives n x) (is_clearing x (tale.label n)) (tale.keeps n x) (silent x) set

@@ -9,9 +9,9 @@ use Rattle.timed_core.specs.Shape.{Tower, Shape, StillSet}
 use Rattle.timed_core.specs.Counts.{one, runs_of}
 use Rattle.timed_core.specs.Promises.{is_boot}
 use Rattle.timed_core.specs.Response.{restarts}
-use Rattle.timed_core.proofs.SumLaws.{total, total_le, total_add, total_pick, weigh, weigh_most, weigh_all, weigh_none, any_gives, both, both_parts}
+use Rattle.timed_core.proofs.SumLaws.{total, total_le, total_add, total_pick, weigh, weigh_most, weigh_all, weigh_none, any_gives, both, both_parts, le_test, le_of, eq_test, eq_of}
 use Rattle.timed_core.proofs.PotentialFacts.{taking, again, commit, listed_in}
-use Rattle.timed_core.proofs.DebtFacts.{weigh_num, le_test, le_of, eq_test, eq_of, heavy, latch_cost, waits, heavy_in, doomed, runs_due, begun, doomed_beneath, debt, due_doomed}
+use Rattle.timed_core.proofs.DebtFacts.{weigh_num, heavy, latch_cost, waits, heavy_in, doomed, runs_due, begun, doomed_beneath, debt, due_doomed}
 
 module _ (p : Timing) (off e : ℕ) where
   -- What one flag or one run of an event costs at most.

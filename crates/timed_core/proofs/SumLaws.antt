@@ -1,7 +1,8 @@
--- Sums over a list, and tests over it, as numbers grow with what they are of.
-use Rattle.std.specs.Prelude.{ℕ, ◌+◌, ◌≤◌, Bool, true, false, ◌&&◌, ◌||◌, List, [], ◌∷◌, ◌⊎◌, if◌then◌else◌, sum_by}
+-- Sums over a list, and tests over it and of numbers, as they grow with what they are of.
+use Rattle.std.specs.Prelude.{ℕ, ◌+◌, ◌<◌, ◌≤◌, ◌==◌, Bool, true, false, ◌&&◌, ◌||◌, not, List, [], ◌∷◌, ◌⊎◌, if◌then◌else◌, nat_le, sum_by}
 use Rattle.std.specs.List.{list_any}
 use Rattle.std.proofs.Common.{◌≡◌, refl, sym, ap, ◌∙◌, arith, inl, inr}
+use Rattle.std.proofs.lemmas.Bool.Decides.{nat_tests}
 use Rattle.std.proofs.lemmas.List.Sums.{sum_by-cons}
 use Rattle.timed_core.proofs.LiveLaws.{In, in_parts}
 
@@ -98,3 +99,25 @@ any_le f g (y ∷ ys) h e = by (f y) refl e (λ it. any_le f g ys h it)
     by : (b : Bool) → f y ≡ b → (b || list_any f ys) ≡ true → (list_any f ys ≡ true → list_any g ys ≡ true) → (g y || list_any g ys) ≡ true
     by true e it rest = or_more (g y) (list_any g ys) (h y e)
     by false e it rest = or_true (g y) (list_any g ys) (rest it)
+
+-- Tests of numbers.
+pub le_test : (a b : ℕ) → a ≤ b → nat_le a b ≡ true
+le_test a b h = grind (arith, nat_tests)
+
+pub le_of : (a b : ℕ) → nat_le a b ≡ true → a ≤ b
+le_of a b h = grind (arith, nat_tests)
+
+pub eq_test : (a b : ℕ) → a ≡ b → (a == b) ≡ true
+eq_test a b h = grind (arith, nat_tests)
+
+pub eq_of : (a b : ℕ) → (a == b) ≡ true → a ≡ b
+eq_of a b h = grind (arith, nat_tests)
+
+pub less_or_not : (a b : ℕ) → (a < b) ⊎ (b ≤ a)
+less_or_not a b = grind arith
+
+-- A flag that a step clears, or that it leaves.
+pub gone : (g b c : Bool) → g ≡ (b && not c) → c ≡ true → g ≡ false
+gone g true true e set = e
+gone g false true e set = e
+gone g b false e set = absurd cc
