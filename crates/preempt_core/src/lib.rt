@@ -3,7 +3,11 @@
 #![tactic(auto)]
 
 mod laws;
+mod priority_core;
+mod runs;
 mod steps;
+mod urgency;
 
 pub use laws::{commits_are_serial, marks_look_back};
+pub use priority_core::Core;
 pub use steps::{Done, Step};
