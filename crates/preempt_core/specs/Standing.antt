@@ -1,5 +1,5 @@
 -- What contracts see of the core as code: its priorities, which events wait, and the marks of its runs.
-use Rattle.std.specs.Prelude.{◌≡◌, ℕ, ◌+◌, ◌<◌, ◌≤◌, Bool, true, false, List, [], ◌∷◌, length, slice_index, slice_index_or, EachIndex, Option, Some, None}
+use Rattle.std.specs.Prelude.{◌≡◌, ℕ, ◌+◌, ◌<◌, ◌≤◌, Bool, true, false, List, [], ◌∷◌, length, slice_index, slice_index_or, EachIndex, map, drop, Option, Some, None}
 use Rattle.preempt_core.specs.declared.steps.Done.{Done}
 use Rattle.preempt_core.specs.declared.runs.Run.{Run}
 use Rattle.preempt_core.specs.Marks.{Mark, Marked, Answered, mark_priority}
@@ -43,7 +43,11 @@ MarksRise priorities [] = Unit {0}
 MarksRise priorities (m ∷ ms) = (mark_priority priorities ms < slice_index priorities m.event) × MarksRise priorities ms
 
 -- What holds of the core's fields: eleven places for runs, of which those from the top one on are under way.
-pub record InOrder (priorities : List ℕ) (top : ℕ) (marks : List Mark) : Type 0 where
+abbrev pub marks_from : ℕ → List Run → List Mark
+marks_from top runs = map mark_run (drop top runs)
+
+pub record InOrder (priorities : List ℕ) (top : ℕ) (runs : List Run) : Type 0 where
   pub events : FewEvents priorities
   pub within : top ≤ 11
-  pub rising : MarksRise priorities marks
+  pub places : length runs ≡ 11
+  pub rising : MarksRise priorities (marks_from top runs)

@@ -20,14 +20,13 @@ pub struct Core<'a> {
 }
 
 impl<'a> Model for Core<'a> {
-    ghost use Rattle.std.specs.Prelude.{map, drop};
-    ghost use Rattle.preempt_core.specs.Standing.{Standing, InOrder, mark_run};
+    ghost use Rattle.preempt_core.specs.Standing.{Standing, InOrder, marks_from};
 
     ghost Value = { Standing };
 
-    ghost view = { λ c. record { priorities = c.priorities.now; latched = c.latched; runs = map mark_run (drop c.top c.runs) } };
+    ghost view = { λ c. record { priorities = c.priorities.now; latched = c.latched; runs = marks_from c.top c.runs } };
 
-    ghost invariant = { λ c. InOrder c.priorities.now c.top (map mark_run (drop c.top c.runs)) };
+    ghost invariant = { λ c. InOrder c.priorities.now c.top c.runs };
 }
 
 impl<'a> Core<'a> {
