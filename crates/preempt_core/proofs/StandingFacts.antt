@@ -21,10 +21,11 @@ one_more_void i now first d low same done rest =
     let here = drop-cons now i d low in
     let there = drop-cons first i d few in
     let run : get_or now i d ≡ get_or first i d = cc in
-    let after : drop (suc i) now ≡ drop (suc i) first = cc in
-    ( take_more_set now i _ low ∙ ap (λ r. take i now ++ voided r ∷ []) run ∙ ap (λ rs. rs ++ voided (get_or first i d) ∷ []) done
-      ∙ sym (map-append voided (take i first) (get_or first i d ∷ [])) ∙ ap (map voided) (sym (take_more first i d few)),
-      drop-set-lt (i + 1) now i _ (omega arith) ∙ rw add-one after )
+    let after : drop (suc i) now ≡ drop (suc i) first = cc in (
+      take_more_set now i _ low ∙ ap (λ r. take i now ++ voided r ∷ []) run ∙ ap (λ rs. rs ++ voided (get_or first i d) ∷ []) done
+          ∙ sym (map-append voided (take i first) (get_or first i d ∷ [])) ∙ ap (map voided) (sym (take_more first i d few)),
+      drop-set-lt (i + 1) now i _ (omega arith) ∙ rw add-one after,
+    )
 
 -- At most as many runs are under way as the top one's priority.
 height : (priorities : List ℕ) (ms : List Mark) → MarksRise priorities ms → length ms ≤ mark_priority priorities ms
@@ -83,7 +84,7 @@ pub runs_committed : (top : ℕ) (runs : List Run) (v : Run) → top < 11 → le
 runs_committed top runs v low places =
     let front : length (take top runs) ≡ top = length-take-le top runs (omega arith) in
     let seam : drop top (take top runs ++ (v ∷ map voided (drop (top + 1) runs))) ≡ v ∷ map voided (drop (top + 1) runs)
-        = subst (λ n. drop n (take top runs ++ (v ∷ map voided (drop (top + 1) runs))) ≡ v ∷ map voided (drop (top + 1) runs)) front (drop-append_seam (take top runs) _) in
+    = subst (λ n. drop n (take top runs ++ (v ∷ map voided (drop (top + 1) runs))) ≡ v ∷ map voided (drop (top + 1) runs)) front (drop-append_seam (take top runs) _) in
     ap (marks_from top) (all_runs top runs v low places) ∙ ap (map mark_run) seam ∙ ap (λ ms. mark_run v ∷ ms) (marks_voided (drop (top + 1) runs))
     ∙ ap (λ n. mark_run v ∷ map (λ (b : Mark). record b { void = true }) (marks_from n runs)) (add-one top)
 
@@ -120,9 +121,9 @@ pub taken_leaves : (priorities : List ℕ) (latched : List Bool) (top : ℕ) (ru
     → mark_priority priorities (marks_from top runs) < slice_index priorities r.event → mark_run r ≡ fresh_mark r.event
     → core_of (record { priorities = priorities; latched = set latched r.event false; runs = marks_from (top - 1) (set runs (top - 1) r) })
     ≡ core_after (core_of (record { priorities = priorities; latched = latched; runs = marks_from top runs }))
-        (if mark_is_left (marks_from top runs)
-         then None
-         else take_marked priorities (core_of (record { priorities = priorities; latched = latched; runs = marks_from top runs })) (most_urgent priorities (latch_of latched) (length priorities)))
+    (if mark_is_left (marks_from top runs)
+    then None
+    else take_marked priorities (core_of (record { priorities = priorities; latched = latched; runs = marks_from top runs })) (most_urgent priorities (latch_of latched) (length priorities)))
 taken_leaves priorities latched top runs r o bits open_run best few up new =
     let all = runs_taken top runs r (has_place priorities top runs r.event o few up) o.within o.places ∙ ap (λ m. m ∷ marks_from top runs) new in
     let low = o.events.few in
@@ -134,17 +135,17 @@ taken_leaves priorities latched top runs r o bits open_run best few up new =
 pub committed_leaves : (priorities : List ℕ) (latched : List Bool) (top : ℕ) (runs : List Run) (d : Run) (before : Standing) → InOrder priorities top runs → top < 11
     → (get_or runs top d).committed ≡ false → (get_or runs top d).void ≡ false → record { priorities = priorities; latched = latched; runs = marks_from top runs } ≡ before
     → core_of (record {
-        priorities = priorities;
-        latched = latched;
-        runs = marks_from top (put_mid (top + 1) (11 - (top + 1)) (set runs top (record (get_or runs top d) { committed = true })) (map voided (mid_of (top + 1) (11 - (top + 1)) (set runs top (record (get_or runs top d) { committed = true })))));
-      })
+      priorities = priorities;
+      latched = latched;
+      runs = marks_from top (put_mid (top + 1) (11 - (top + 1)) (set runs top (record (get_or runs top d) { committed = true })) (map voided (mid_of (top + 1) (11 - (top + 1)) (set runs top (record (get_or runs top d) { committed = true })))));
+    })
     ≡ core_after (core_of before) (top_marked (core_of before) steps.Commit before.runs)
 committed_leaves priorities latched top runs d before o low open_run clean is =
     let places = o.places in
     let after : Standing = record {
-        priorities = priorities;
-        latched = latched;
-        runs = marks_from top (put_mid (top + 1) (11 - (top + 1)) (set runs top (record (get_or runs top d) { committed = true })) (map voided (mid_of (top + 1) (11 - (top + 1)) (set runs top (record (get_or runs top d) { committed = true })))));
-      } in
+      priorities = priorities;
+      latched = latched;
+      runs = marks_from top (put_mid (top + 1) (11 - (top + 1)) (set runs top (record (get_or runs top d) { committed = true })) (map voided (mid_of (top + 1) (11 - (top + 1)) (set runs top (record (get_or runs top d) { committed = true })))));
+    } in
     subst (λ (s : Standing). core_of after ≡ core_after (core_of s) (top_marked (core_of s) steps.Commit s.runs)) is
     (rw (runs_committed top runs (record (get_or runs top d) { committed = true }) low places, runs_apart top runs d (omega arith), open_run, clean) refl)

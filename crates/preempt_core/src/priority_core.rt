@@ -39,7 +39,11 @@ impl<'a> Core<'a> {
         Core {
             priorities,
             latched: [false; 11],
-            runs: [Run { event: 0, void: false, committed: false }; 11],
+            runs: [Run {
+                event: 0,
+                void: false,
+                committed: false,
+            }; 11],
             top: 11,
         }
     }
@@ -90,7 +94,11 @@ impl<'a> Core<'a> {
         }
         self.latched[event as usize] = false;
         self.top -= 1;
-        self.runs[self.top] = Run { event, void: false, committed: false };
+        self.runs[self.top] = Run {
+            event,
+            void: false,
+            committed: false,
+        };
         Some(Done::Took(event))
     }
 
@@ -118,7 +126,11 @@ impl<'a> Core<'a> {
         ensures { result ≡ answer_of (marked_step self.now.priorities (core_of self.now) steps.Work) }
     {
         let run = self.runs.get(self.top)?;
-        if run.committed { None } else { Some(Done::Worked) }
+        if run.committed {
+            None
+        } else {
+            Some(Done::Worked)
+        }
     }
 
     fn redo(&mut self) -> Option<Done>
@@ -126,12 +138,17 @@ impl<'a> Core<'a> {
         ensures leaves { core_of self.new ≡ core_after (core_of self.old) (marked_step self.old.priorities (core_of self.old) steps.Redo) }
         ensures keeps { self.new.priorities ≡ self.old.priorities }
     {
-        let event = self.runs.get(self.top)?.event;
-        if !self.runs[self.top].void {
+        let run = *self.runs.get(self.top)?;
+        if !run.void {
             return None;
         }
-        self.runs[self.top] = Run { event, void: false, committed: false };
-        Some(Done::Redone(event))
+        let again = Run {
+            event: run.event,
+            void: false,
+            committed: false,
+        };
+        self.runs[self.top] = again;
+        Some(Done::Redone(run.event))
     }
 
     fn commit(&mut self) -> Option<Done>

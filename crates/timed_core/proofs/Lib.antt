@@ -1,3 +1,4 @@
+pub mod Examples
 pub mod AccountLaws
 pub mod BoundFacts
 pub mod ComesLaws

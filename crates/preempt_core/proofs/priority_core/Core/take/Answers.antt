@@ -15,5 +15,5 @@ returns-clause-leaves c =
     let left = rw (← is) at c.if-is_left.ensures in
     rw (← is)
     (taken_leaves c.self.inside.priorities.now c.self.inside.latched c.self.inside.top c.self.inside.runs _ c.self.invariant c.self.told.1 (sym left) c.in_ok-event.ensures.best c.in_ok-event.ensures.within
-      (rw (← top) c.if-top_priority-self.false)
-      refl)
+    (rw (← top) c.if-top_priority-self.false)
+    refl)
