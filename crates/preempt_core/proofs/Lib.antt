@@ -1,3 +1,4 @@
+pub mod Examples
 pub mod GoesFacts
 pub mod MarkLaws
 pub mod SerialLaws

@@ -1,5 +1,5 @@
 -- What the steps of the core as code leave of its runs.
-use Rattle.std.specs.Prelude.{ℕ, zero, suc, ◌+◌, ◌-◌, ◌<◌, ◌≤◌, ◌==◌, ◌≢◌, Bool, true, false, nat_lt, List, [], ◌∷◌, ◌++◌, length, slice_index, map, Option, Some, None, if◌then◌else◌}
+use Rattle.std.specs.Prelude.{ℕ, suc, ◌+◌, ◌-◌, ◌<◌, ◌≤◌, ◌==◌, ◌≢◌, Bool, true, false, nat_lt, List, [], ◌∷◌, ◌++◌, length, slice_index, map, Some, None, if◌then◌else◌}
 use Rattle.std.proofs.Common.{◌≡◌, refl, ap, sym, subst, ◌∙◌, arith, take, drop, set, get_or, add-one, drop-cons, length-drop, append_assoc, append-nil, length-append}
 use Rattle.std.proofs.lemmas.List.{take_more, take_more_set, drop-set, drop-set-lt, length-map, length-set, length-take-le, map-append, take_all, get_or-set_same, get_or-set_other}
 use Rattle.std.proofs.lemmas.Bool.Decides.{nat_tests}
@@ -11,7 +11,7 @@ use Rattle.preempt_core.specs.declared.runs.Run.{Run}
 use Rattle.preempt_core.specs.declared.steps.Step.TheVariants as steps
 use Rattle.preempt_core.specs.Marks.{Mark, mark_is_left, mark_priority, fresh_mark, take_marked, top_marked}
 use Rattle.preempt_core.specs.Runs.{most_urgent, with_latch}
-use Rattle.preempt_core.specs.Standing.{Standing, mark_run, voided, latch_of, core_of, core_after, marks_from, FewEvents, MarksRise, InOrder}
+use Rattle.preempt_core.specs.Standing.{Standing, mark_run, voided, latch_of, core_of, core_after, marks_from, MarksRise, InOrder}
 
 -- One run more is void.
 pub one_more_void : (i : ℕ) (now first : List Run) (d : Run) → i < length now → length now ≡ length first → take i now ≡ map voided (take i first) → drop i now ≡ drop i first

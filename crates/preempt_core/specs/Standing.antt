@@ -1,5 +1,5 @@
 -- What contracts see of the core as code: its priorities, which events wait, and the marks of its runs.
-use Rattle.std.specs.Prelude.{◌≡◌, ℕ, ◌+◌, ◌<◌, ◌≤◌, Bool, true, false, List, [], ◌∷◌, length, slice_index, slice_index_or, EachIndex, map, drop, Option, Some, None}
+use Rattle.std.specs.Prelude.{◌≡◌, ℕ, ◌<◌, ◌≤◌, Bool, true, false, List, [], ◌∷◌, length, slice_index, slice_index_or, EachIndex, map, drop, Option, Some, None}
 use Rattle.preempt_core.specs.declared.steps.Done.{Done}
 use Rattle.preempt_core.specs.declared.runs.Run.{Run}
 use Rattle.preempt_core.specs.Marks.{Mark, Marked, Answered, mark_priority}

@@ -1,8 +1,8 @@
-pub mod Examples
 pub mod AccountLaws
 pub mod BoundFacts
 pub mod ComesLaws
 pub mod DebtFacts
+pub mod Examples
 pub mod FallFacts
 pub mod LiveLaws
 pub mod MoveLaws

@@ -1,0 +1,2 @@
+-- Lists of steps, computed.
+pub mod Lists
