@@ -42,10 +42,11 @@ abbrev pub MarksRise : List ℕ → List Mark → Type 0
 MarksRise priorities [] = Unit {0}
 MarksRise priorities (m ∷ ms) = (mark_priority priorities ms < slice_index priorities m.event) × MarksRise priorities ms
 
--- What holds of the core's fields: eleven places for runs, of which those from the top one on are under way.
+-- The marks of the runs from a place on.
 abbrev pub marks_from : ℕ → List Run → List Mark
 marks_from top runs = map mark_run (drop top runs)
 
+-- What holds of the core's fields: eleven places for runs, of which those from the top one on are under way.
 pub record InOrder (priorities : List ℕ) (top : ℕ) (runs : List Run) : Type 0 where
   pub events : FewEvents priorities
   pub within : top ≤ 11

@@ -1,8 +1,9 @@
 // The core as code: it keeps a mark a run.
 
-ghost use Rattle.std.specs.Prelude.{◌≡◌, ◌≤◌, [], replicate, false, slice_index};
+ghost use Rattle.std.specs.Prelude.{◌≡◌, ℕ, List, [], replicate, false};
 ghost use Rattle.preempt_core.specs.declared.steps.Step.TheVariants as steps;
-ghost use Rattle.preempt_core.specs.Marks.{mark_is_left, mark_priority, marked_step};
+ghost use Rattle.preempt_core.specs.Marks.{mark_is_left, mark_priority, marked_step, marks_of};
+ghost use Rattle.preempt_core.specs.Runs.{start};
 ghost use Rattle.preempt_core.specs.Standing.{FewEvents, Standing, core_of, answer_of, core_after};
 
 use crate::runs::{Run, void_all};
@@ -30,11 +31,12 @@ impl<'a> Model for Core<'a> {
 }
 
 impl<'a> Core<'a> {
-    /// The core at the start, where no event waits and no run is under way. The priorities are those of the events by their
+    /// The core at the start, where no event waits and no run is under way, as before the first step of a list. The priorities are those of the events by their
     /// numbers, at most 11 of at most 11.
     pub fn new(priorities: &'a [u8]) -> Core<'a>
         requires { FewEvents priorities.now }
-        ensures { result ≡ record { priorities = priorities.now; latched = replicate 11 false; runs = [] } }
+        ensures empty { result ≡ record { priorities = priorities.now; latched = replicate 11 false; runs = [] } }
+        ensures starts { (state : List ℕ) → core_of result ≡ marks_of (start state) }
     {
         Core {
             priorities,
