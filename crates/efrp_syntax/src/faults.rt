@@ -1,15 +1,6 @@
 // Why a text has no tokens or no tree.
+use frp_tree::Kind;
 use std::alloc::AllocError;
-
-/// What there may be too many of.
-#[derive(Clone, Copy, Debug, PartialEq, Eq)]
-pub enum Kind {
-    Events,
-    Setups,
-    Definitions,
-    Outputs,
-    Nodes,
-}
 
 /// Why a text has no tokens or no tree. Bytes and tokens are numbered from 0.
 #[derive(Clone, Copy, Debug, PartialEq, Eq)]
@@ -23,7 +14,7 @@ pub enum SyntaxFault {
     Unexpected(u32),
     /// This token opens a nesting of 65.
     TooDeep(u32),
-    /// There is one too many of this kind.
+    /// There is one too many of this kind: of the program, or an entry too many for its table.
     TooMany(Kind),
     /// Out of memory.
     Memory,

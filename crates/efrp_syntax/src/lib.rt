@@ -13,8 +13,8 @@ mod marks;
 mod numbers;
 mod prefixes;
 
-pub use faults::{Kind, SyntaxFault};
-pub use frp_tree::Token;
+pub use faults::SyntaxFault;
+pub use frp_tree::{Kind, Token};
 pub use keywords::is_keyword;
 pub use laws::one_list_of_tokens;
 pub use lexer::lex;

@@ -1,4 +1,5 @@
--- Limits, literals, priorities and marks, computed.
+-- Grammar, limits, literals, priorities and marks, computed.
+pub mod Grammar
 pub mod Limits
 pub mod Literals
 pub mod Marks

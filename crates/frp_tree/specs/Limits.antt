@@ -1,9 +1,22 @@
--- What every program that a text spells keeps, whatever its names and types: the limits of counts, and no conversion to bool.
+-- How much of each kind a program may have; and what every program that a text spells keeps, whatever its names and types:
+-- these limits, and no conversion to bool.
 use Rattle.std.specs.Prelude.{◌≡◌, ℕ, ◌+◌, ◌≤◌, Bool, true, false, ◌&&◌, length, sum_by}
 use Rattle.std.specs.List.{AllByRecursion, list_all}
+use Rattle.frp_tree.specs.declared.kinds.Kind.{Kind}
+use Rattle.frp_tree.specs.declared.kinds.Kind.TheVariants.{Events, Setups, Definitions, Outputs, Nodes, Entries}
+use Rattle.frp_tree.specs.declared.limits.TheConstants.{MOST_EVENTS, MOST_SETUPS, MOST_DEFINITIONS, MOST_OUTPUTS, MOST_NODES, MOST_ENTRIES_OF_A_TABLE, MOST_ENTRIES}
 use Rattle.frp_tree.specs.declared.syntax.Ty.{Ty}
 use Rattle.frp_tree.specs.declared.syntax.Ty.TheVariants as ty
 use Rattle.frp_tree.specs.Tree.{Tree, Const, Name, Unary, Binary, Shift, If, Convert, Look, BehaviourTree, Plain, Input, Table, Reactive, DeclTree, ProgramTree}
+
+-- How many of a kind a program may have; the nodes are those of all expressions, the entries those of all tables.
+abbrev pub most : Kind → ℕ
+most Events = MOST_EVENTS
+most Setups = MOST_SETUPS
+most Definitions = MOST_DEFINITIONS
+most Outputs = MOST_OUTPUTS
+most Nodes = MOST_NODES
+most Entries = MOST_ENTRIES
 
 -- The nodes of an expression: each literal, name, operator, `if`, conversion and look-up.
 abbrev pub nodes : Tree → ℕ
@@ -56,12 +69,12 @@ converts_in (Reactive init clauses) = list_all (λ c. converts_to_numbers c.expr
 
 -- What a call that takes a tree from outside may ask of it.
 pub record CanBeWritten (p : ProgramTree) : Type 0 where
-  pub events : length p.events ≤ 11
-  pub setups : length p.setups ≤ 32
-  pub decls : length p.decls ≤ 128
-  pub outputs : length p.outputs ≤ 5
-  pub nodes : nodes_of p ≤ 4096
-  pub table_entries : AllByRecursion (λ (d : DeclTree). entries_in d.behaviour ≤ 256) p.decls
-  pub entries : sum_by (λ d. entries_in d.behaviour) p.decls ≤ 2048
+  pub events : length p.events ≤ MOST_EVENTS
+  pub setups : length p.setups ≤ MOST_SETUPS
+  pub decls : length p.decls ≤ MOST_DEFINITIONS
+  pub outputs : length p.outputs ≤ MOST_OUTPUTS
+  pub nodes : nodes_of p ≤ MOST_NODES
+  pub table_entries : AllByRecursion (λ (d : DeclTree). entries_in d.behaviour ≤ MOST_ENTRIES_OF_A_TABLE) p.decls
+  pub entries : sum_by (λ d. entries_in d.behaviour) p.decls ≤ MOST_ENTRIES
   pub decl_conversions : list_all (λ d. converts_in d.behaviour) p.decls ≡ true
   pub output_conversions : list_all (λ o. converts_to_numbers o.expr) p.outputs ≡ true

@@ -5,12 +5,17 @@
 //! `efrp_meaning`.
 #![tactic(auto)]
 
+mod kinds;
+mod levels;
+pub mod limits;
 mod lists;
 pub mod marks;
 mod syntax;
 mod texts;
 mod tokens;
 
+pub use kinds::Kind;
+pub use levels::Level;
 pub use lists::List;
 pub use syntax::{
     Behaviour, BinOp, Clause, Decl, Event, Expr, Lit, Output, Program, Setup, Side, Ty, UnOp,
