@@ -1,3 +1,4 @@
+pub mod Account
 pub mod Boots
 pub mod Counts
 pub mod Firmware
