@@ -1,5 +1,5 @@
 -- No two sources share a name, no two ports do, and a register's name has one address.
-use Rattle.std.proofs.Common.{map, ◌≡◌, ℕ, ◌<◌, zero, suc, List, [], ◌∷◌, Option, Some, refl, sym, ap, ◌∙◌, arith}
+use Rattle.std.proofs.Common.{map, ◌≡◌, ℕ, ◌<◌, zero, suc, List, Option, Some, refl, sym, ap, ◌∙◌, arith}
 use Rattle.std.specs.Map.{lookup}
 use Rattle.std.specs.Str.{bytes_eq}
 use Rattle.pic_isa.specs.declared.sources.Source.{Source}
