@@ -1,55 +1,28 @@
 -- The bits of a number that the code computes by `&`, `|`, `^`, `!` and shifts, as those of a byte.
-use Rattle.std.proofs.Common.{◌≡◌, ℕ, zero, suc, ◌+◌, ◌-◌, ◌*◌, ◌/◌, ◌%◌, ◌^◌, ◌<◌, min, max, Bool, true, false, not, ◌&&◌, ◌||◌, ◌==◌, if◌then◌else◌, bit_and, bit_or, w8, refl, ap, ◌∙◌, sym, arith, lit<}
+use Rattle.std.proofs.Common.{◌≡◌, ℕ, zero, suc, ◌+◌, ◌-◌, ◌*◌, ◌/◌, ◌%◌, ◌^◌, ◌<◌, min, max, Bool, true, false, not, ◌&&◌, ◌||◌, ◌==◌, if◌then◌else◌, bit_and, bit_or, w8, refl, ap, ◌∙◌, sym, arith}
 use Rattle.std.specs.Prelude.{bit_xor}
 use Rattle.std.specs.Int.{bit_at, bit_not}
 use Rattle.std.proofs.lemmas.Bool.{ne_eqb}
 use Rattle.std.proofs.lemmas.Nat.Bits.{bit_at_lowest, bit_at_and, bit_at_or, bit_at_xor, bit_at_not, bit_at-lt, shr_and_one}
 use Rattle.pic_regs.specs.Bytes.{Byte, num, bits, one_if, bit, with_bit, bit_by_bit, chosen, is_zero, share_a_bit, swapped}
-use Rattle.pic_regs.proofs.ByteLaws.{num-bits}
+use Rattle.pic_regs.proofs.ByteLaws.{by_each_bit, num-bits}
 
 pub bit-bits : (i n : ℕ) → i < 8 → bit i (bits n) ≡ (bit_at n i == 1)
 bit-bits zero n h = ap (λ m. m == 1) (sym (bit_at_lowest n))
-bit-bits (suc zero) n h = refl
-bit-bits (suc (suc zero)) n h = refl
-bit-bits (suc (suc (suc zero))) n h = refl
-bit-bits (suc (suc (suc (suc zero)))) n h = refl
-bit-bits (suc (suc (suc (suc (suc zero))))) n h = refl
-bit-bits (suc (suc (suc (suc (suc (suc zero)))))) n h = refl
-bit-bits (suc (suc (suc (suc (suc (suc (suc zero))))))) n h = refl
 bit-bits (suc (suc (suc (suc (suc (suc (suc (suc i)))))))) n h = absurd (omega (arith, h))
+bit-bits _ n h = refl
 
 -- A number's byte, by its bits.
 pub from_bits : (n : ℕ) (x : Byte) → ((i : ℕ) → i < 8 → (bit_at n i == 1) ≡ bit i x) → bits n ≡ x
-from_bits n x h =
-    let h7 : bit 7 (bits n) ≡ x.b7 = bit-bits 7 n (lit< tt) ∙ h 7 (lit< tt) in
-    let h6 : bit 6 (bits n) ≡ x.b6 = bit-bits 6 n (lit< tt) ∙ h 6 (lit< tt) in
-    let h5 : bit 5 (bits n) ≡ x.b5 = bit-bits 5 n (lit< tt) ∙ h 5 (lit< tt) in
-    let h4 : bit 4 (bits n) ≡ x.b4 = bit-bits 4 n (lit< tt) ∙ h 4 (lit< tt) in
-    let h3 : bit 3 (bits n) ≡ x.b3 = bit-bits 3 n (lit< tt) ∙ h 3 (lit< tt) in
-    let h2 : bit 2 (bits n) ≡ x.b2 = bit-bits 2 n (lit< tt) ∙ h 2 (lit< tt) in
-    let h1 : bit 1 (bits n) ≡ x.b1 = bit-bits 1 n (lit< tt) ∙ h 1 (lit< tt) in
-    let h0 : bit 0 (bits n) ≡ x.b0 = bit-bits 0 n (lit< tt) ∙ h 0 (lit< tt) in
-    λ j. record { b7 = h7 j; b6 = h6 j; b5 = h5 j; b4 = h4 j; b3 = h3 j; b2 = h2 j; b1 = h1 j; b0 = h0 j }
+from_bits n x h = by_each_bit (bits n) x (λ i below. bit-bits i n below ∙ h i below)
 
 bit-bit_by_bit : (op : Bool → Bool → Bool) (i : ℕ) (x y : Byte) → bit i (bit_by_bit op x y) ≡ op (bit i x) (bit i y)
-bit-bit_by_bit op zero x y = refl
-bit-bit_by_bit op (suc zero) x y = refl
-bit-bit_by_bit op (suc (suc zero)) x y = refl
-bit-bit_by_bit op (suc (suc (suc zero))) x y = refl
-bit-bit_by_bit op (suc (suc (suc (suc zero)))) x y = refl
-bit-bit_by_bit op (suc (suc (suc (suc (suc zero))))) x y = refl
-bit-bit_by_bit op (suc (suc (suc (suc (suc (suc zero)))))) x y = refl
 bit-bit_by_bit op (suc (suc (suc (suc (suc (suc (suc i))))))) x y = refl
+bit-bit_by_bit op _ x y = refl
 
 bit-chosen : (i : ℕ) (c x y : Byte) → bit i (chosen c x y) ≡ (if bit i c then bit i y else bit i x)
-bit-chosen zero c x y = refl
-bit-chosen (suc zero) c x y = refl
-bit-chosen (suc (suc zero)) c x y = refl
-bit-chosen (suc (suc (suc zero))) c x y = refl
-bit-chosen (suc (suc (suc (suc zero)))) c x y = refl
-bit-chosen (suc (suc (suc (suc (suc zero))))) c x y = refl
-bit-chosen (suc (suc (suc (suc (suc (suc zero)))))) c x y = refl
 bit-chosen (suc (suc (suc (suc (suc (suc (suc i))))))) c x y = refl
+bit-chosen _ c x y = refl
 
 -- An operation on numbers that is one on bits at each place.
 by_bits : (op : Bool → Bool → Bool) (n x y : ℕ) → ((i : ℕ) → i < 8 → (bit_at n i == 1) ≡ op (bit_at x i == 1) (bit_at y i == 1)) → bits n ≡ bit_by_bit op (bits x) (bits y)
@@ -62,28 +35,19 @@ by_bits op n x y h =
 
 -- What the operations do to bits that are 0 or 1.
 pub and_one : (a b : ℕ) → a < 2 → b < 2 → (min a b == 1) ≡ ((a == 1) && (b == 1))
-and_one zero zero p q = refl
-and_one zero (suc zero) p q = refl
-and_one (suc zero) zero p q = refl
-and_one (suc zero) (suc zero) p q = refl
 and_one (suc (suc a)) b p q = absurd (omega (arith, p))
 and_one a (suc (suc b)) p q = absurd (omega (arith, q))
+and_one _ _ p q = refl
 
 or_one : (a b : ℕ) → a < 2 → b < 2 → (max a b == 1) ≡ ((a == 1) || (b == 1))
-or_one zero zero p q = refl
-or_one zero (suc zero) p q = refl
-or_one (suc zero) zero p q = refl
-or_one (suc zero) (suc zero) p q = refl
 or_one (suc (suc a)) b p q = absurd (omega (arith, p))
 or_one a (suc (suc b)) p q = absurd (omega (arith, q))
+or_one _ _ p q = refl
 
 xor_one : (a b : ℕ) → a < 2 → b < 2 → ((a + b) % 2 == 1) ≡ (if a == 1 then not (b == 1) else b == 1)
-xor_one zero zero p q = refl
-xor_one zero (suc zero) p q = refl
-xor_one (suc zero) zero p q = refl
-xor_one (suc zero) (suc zero) p q = refl
 xor_one (suc (suc a)) b p q = absurd (omega (arith, p))
 xor_one a (suc (suc b)) p q = absurd (omega (arith, q))
+xor_one _ _ p q = refl
 
 pub not_one : (a : ℕ) → a < 2 → ((1 - a) == 1) ≡ not (a == 1)
 not_one zero p = refl
@@ -91,17 +55,10 @@ not_one (suc zero) p = refl
 not_one (suc (suc a)) p = absurd (omega (arith, p))
 
 pick_one : (c x y : ℕ) → c < 2 → x < 2 → y < 2 → (max (min x (1 - c)) (min y c) == 1) ≡ (if c == 1 then y == 1 else x == 1)
-pick_one zero zero zero p q r = refl
-pick_one zero zero (suc zero) p q r = refl
-pick_one zero (suc zero) zero p q r = refl
-pick_one zero (suc zero) (suc zero) p q r = refl
-pick_one (suc zero) zero zero p q r = refl
-pick_one (suc zero) zero (suc zero) p q r = refl
-pick_one (suc zero) (suc zero) zero p q r = refl
-pick_one (suc zero) (suc zero) (suc zero) p q r = refl
 pick_one (suc (suc c)) x y p q r = absurd (omega (arith, p))
 pick_one c (suc (suc x)) y p q r = absurd (omega (arith, q))
 pick_one c x (suc (suc y)) p q r = absurd (omega (arith, r))
+pick_one _ _ _ p q r = refl
 
 pub bits-and : (x y : ℕ) → bits (bit_and x y) ≡ bit_by_bit (λ p q. p && q) (bits x) (bits y)
 bits-and x y = by_bits (λ p q. p && q) (bit_and x y) x y (λ i below. ap (λ n. n == 1) (bit_at_and x y i) ∙ and_one (bit_at x i) (bit_at y i) (bit_at-lt x i) (bit_at-lt y i))
@@ -131,17 +88,11 @@ bits-pick c x y small =
     ∙ sym (bit-chosen i (bits c) (bits x) (bits y)))
 
 pub bits-swapped : (x : ℕ) → x < 256 → bits (x % 16 * 16 + x / 16) ≡ swapped (bits x)
-bits-swapped x small =
-    let n : ℕ = x % 16 * 16 + x / 16 in
-    let h7 : n / 128 % 2 ≡ x / 8 % 2 = omega (arith, small) in
-    let h6 : n / 64 % 2 ≡ x / 4 % 2 = omega (arith, small) in
-    let h5 : n / 32 % 2 ≡ x / 2 % 2 = omega (arith, small) in
-    let h4 : n / 16 % 2 ≡ x % 2 = omega (arith, small) in
-    let h3 : n / 8 % 2 ≡ x / 128 % 2 = omega (arith, small) in
-    let h2 : n / 4 % 2 ≡ x / 64 % 2 = omega (arith, small) in
-    let h1 : n / 2 % 2 ≡ x / 32 % 2 = omega (arith, small) in
-    let h0 : n % 2 ≡ x / 16 % 2 = omega (arith, small) in
-    λ j. record { b7 = h7 j == 1; b6 = h6 j == 1; b5 = h5 j == 1; b4 = h4 j == 1; b3 = h3 j == 1; b2 = h2 j == 1; b1 = h1 j == 1; b0 = h0 j == 1 }
+bits-swapped x small = by_each_bit (bits (x % 16 * 16 + x / 16)) (swapped (bits x)) at_each
+  where
+    at_each : (i : ℕ) → i < 8 → bit i (bits (x % 16 * 16 + x / 16)) ≡ bit i (swapped (bits x))
+    at_each (suc (suc (suc (suc (suc (suc (suc (suc i)))))))) h = absurd (omega (arith, h))
+    at_each _ h = ap (λ m. m == 1) (omega (arith, small))
 
 -- The test of one bit.
 pub bit-shifted : (i n : ℕ) → i < 8 → (bit_and (n / 2 ^ i) 1 == 1) ≡ bit i (bits n)
@@ -149,38 +100,18 @@ bit-shifted i n below = ap (λ m. m == 1) (shr_and_one n i) ∙ sym (bit-bits i 
 
 -- One bit set, and one cleared.
 pub pick-set : (i : ℕ) (x : Byte) → i < 8 → chosen (bits (1 * 2 ^ i % 2 ^ 8)) x (bits 0xFF) ≡ with_bit i true x
-pick-set zero x h = refl
-pick-set (suc zero) x h = refl
-pick-set (suc (suc zero)) x h = refl
-pick-set (suc (suc (suc zero))) x h = refl
-pick-set (suc (suc (suc (suc zero)))) x h = refl
-pick-set (suc (suc (suc (suc (suc zero))))) x h = refl
-pick-set (suc (suc (suc (suc (suc (suc zero)))))) x h = refl
-pick-set (suc (suc (suc (suc (suc (suc (suc zero))))))) x h = refl
 pick-set (suc (suc (suc (suc (suc (suc (suc (suc i)))))))) x h = absurd (omega (arith, h))
+pick-set _ x h = refl
 
 pub pick-clear : (i : ℕ) (x : Byte) → i < 8 → chosen (bits (1 * 2 ^ i % 2 ^ 8)) x (bits 0x00) ≡ with_bit i false x
-pick-clear zero x h = refl
-pick-clear (suc zero) x h = refl
-pick-clear (suc (suc zero)) x h = refl
-pick-clear (suc (suc (suc zero))) x h = refl
-pick-clear (suc (suc (suc (suc zero)))) x h = refl
-pick-clear (suc (suc (suc (suc (suc zero))))) x h = refl
-pick-clear (suc (suc (suc (suc (suc (suc zero)))))) x h = refl
-pick-clear (suc (suc (suc (suc (suc (suc (suc zero))))))) x h = refl
 pick-clear (suc (suc (suc (suc (suc (suc (suc (suc i)))))))) x h = absurd (omega (arith, h))
+pick-clear _ x h = refl
 
 -- A byte is 00h where no bit is set.
 zero_test : (a b c d e f g h : Bool) → ((128 * one_if a + 64 * one_if b + 32 * one_if c + 16 * one_if d + 8 * one_if e + 4 * one_if f + 2 * one_if g + one_if h) == 0) ≡ not (a || b || c || d || e || f || g || h)
 zero_test false false false false false false false false = refl
 zero_test false false false false false false false true = refl
-zero_test false false false false false false true h = ne_eqb _ 0 (λ e. omega arith)
-zero_test false false false false false true g h = ne_eqb _ 0 (λ e. omega arith)
-zero_test false false false false true f g h = ne_eqb _ 0 (λ e. omega arith)
-zero_test false false false true e f g h = ne_eqb _ 0 (λ e. omega arith)
-zero_test false false true d e f g h = ne_eqb _ 0 (λ e. omega arith)
-zero_test false true c d e f g h = ne_eqb _ 0 (λ e. omega arith)
-zero_test true b c d e f g h = ne_eqb _ 0 (λ e. omega arith)
+zero_test _ _ _ _ _ _ _ _ = ne_eqb _ 0 (λ e. omega arith)
 
 pub zero-bits : (n : ℕ) → n < 256 → (n == 0) ≡ is_zero (bits n)
 zero-bits n small =

@@ -1,5 +1,5 @@
 -- Bytes and numbers: each is the other's, up to 256.
-use Rattle.std.proofs.Common.{◌≡◌, ℕ, ◌%◌, ◌/◌, ◌<◌, ◌≤◌, ◌==◌, Bool, true, false, refl, ap, ◌∙◌, arith, lit≤}
+use Rattle.std.proofs.Common.{◌≡◌, ℕ, ◌%◌, ◌/◌, ◌<◌, ◌≤◌, ◌==◌, Bool, true, false, refl, ap, ◌∙◌, arith, lit≤, lit<, suc}
 use Rattle.pic_regs.specs.Bytes.{Byte, num, bits, one_if, swapped, with_bit, bit}
 
 low_byte : num (bits 0x13A7) ≡ 0xA7
@@ -36,22 +36,15 @@ one_if-is_one false = refl
 pub bit-num : (b : Bool) (n : ℕ) → n % 2 ≡ one_if b → ((n % 2) == 1) ≡ b
 bit-num b n e = ap (λ m. m == 1) e ∙ one_if-is_one b
 
+-- Two bytes with the same bits are the same.
+pub by_each_bit : (x y : Byte) → ((i : ℕ) → i < 8 → bit i x ≡ bit i y) → x ≡ y
+by_each_bit x y h =
+    λ j. record { b7 = h 7 (lit< tt) j; b6 = h 6 (lit< tt) j; b5 = h 5 (lit< tt) j; b4 = h 4 (lit< tt) j; b3 = h 3 (lit< tt) j; b2 = h 2 (lit< tt) j; b1 = h 1 (lit< tt) j; b0 = h 0 (lit< tt) j }
+
 pub bits-num : (x : Byte) → bits (num x) ≡ x
-bits-num x =
-    let s7 = one_if-small x.b7 in
-    let s6 = one_if-small x.b6 in
-    let s5 = one_if-small x.b5 in
-    let s4 = one_if-small x.b4 in
-    let s3 = one_if-small x.b3 in
-    let s2 = one_if-small x.b2 in
-    let s1 = one_if-small x.b1 in
-    let s0 = one_if-small x.b0 in
-    let e7 = bit-num x.b7 (num x / 128) (omega (arith, s7, s6, s5, s4, s3, s2, s1, s0)) in
-    let e6 = bit-num x.b6 (num x / 64) (omega (arith, s7, s6, s5, s4, s3, s2, s1, s0)) in
-    let e5 = bit-num x.b5 (num x / 32) (omega (arith, s7, s6, s5, s4, s3, s2, s1, s0)) in
-    let e4 = bit-num x.b4 (num x / 16) (omega (arith, s7, s6, s5, s4, s3, s2, s1, s0)) in
-    let e3 = bit-num x.b3 (num x / 8) (omega (arith, s7, s6, s5, s4, s3, s2, s1, s0)) in
-    let e2 = bit-num x.b2 (num x / 4) (omega (arith, s7, s6, s5, s4, s3, s2, s1, s0)) in
-    let e1 = bit-num x.b1 (num x / 2) (omega (arith, s7, s6, s5, s4, s3, s2, s1, s0)) in
-    let e0 = bit-num x.b0 (num x) (omega (arith, s7, s6, s5, s4, s3, s2, s1, s0)) in
-    λ i. record { b7 = e7 i; b6 = e6 i; b5 = e5 i; b4 = e4 i; b3 = e3 i; b2 = e2 i; b1 = e1 i; b0 = e0 i }
+bits-num x = by_each_bit (bits (num x)) x at_each
+  where
+    at_each : (i : ℕ) → i < 8 → bit i (bits (num x)) ≡ bit i x
+    at_each (suc (suc (suc (suc (suc (suc (suc (suc i)))))))) h = absurd (omega (arith, h))
+    at_each _ h =
+        bit-num _ _ (omega (arith, one_if-small x.b7, one_if-small x.b6, one_if-small x.b5, one_if-small x.b4, one_if-small x.b3, one_if-small x.b2, one_if-small x.b1, one_if-small x.b0))

@@ -1,4 +1,4 @@
-use Rattle.std.proofs.Common.{◌<◌, ◌≡◌, subst, sym, ap, ◌∙◌}
+use Rattle.std.proofs.Common.{◌<◌, subst, sym, ap, ◌∙◌}
 use Rattle.pic_isa.specs.declared.sources.BitAt.{BitAt}
 use Rattle.pic_regs.specs.Bytes.{bit}
 use Rattle.pic_regs.specs.FlagBits.{flags_at}

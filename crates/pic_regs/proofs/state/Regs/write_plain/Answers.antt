@@ -1,7 +1,10 @@
-use Rattle.std.proofs.Common.{refl, arith}
+use Rattle.std.proofs.Common.{refl, ap, arith}
 use Rattle.pic_regs.specs.Bytes.{bits}
-use Rattle.pic_regs.proofs.MemoryFacts.{plain-set}
+use Rattle.pic_regs.specs.State.{registers_of}
+use Rattle.pic_regs.proofs.MemoryFacts.{set_at}
 use Rattle.pic_regs.proofs.state.Regs.write_plain.Goals as goal
 
 pub returns : goal.returns
-returns c = plain-set c.args.self.now c.from.result c.args.address c.args.byte (bits c.args.byte) (omega arith) c.from.ensures refl
+returns c =
+    ap (λ m. record (registers_of c.args.self.now) { plain = m })
+    (set_at 0x00 c.args.self.now.plain c.from.result c.args.address c.args.byte (bits c.args.byte) (omega arith) c.from.ensures refl)
