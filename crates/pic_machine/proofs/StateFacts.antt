@@ -1,5 +1,5 @@
 -- What the code's chip is after its small steps: the return stack, stored results, and what is reported.
-use Rattle.std.proofs.Common.{◌≡◌, ℕ, zero, suc, Some, None, sym, [], ◌∷◌, ◌<◌, Bool, true, false, List, length, get_or, set, ◌==◌, if◌then◌else◌, refl, ap, ◌∙◌, get_or-set_same, get_or-set_other}
+use Rattle.std.proofs.Common.{◌≡◌, ℕ, suc, Some, None, sym, [], ◌∷◌, ◌<◌, Bool, true, false, List, length, get_or, set, ◌==◌, if◌then◌else◌, refl, ap, ◌∙◌, get_or-set_same, get_or-set_other}
 use Rattle.std.proofs.Math.Path.{fun_ext}
 use Rattle.std.proofs.lemmas.Bool.{eqb-true, eqb-false}
 use Rattle.pic_regs.specs.declared.places.Place.{Place}
@@ -35,30 +35,12 @@ pub places-empty : places empty ≡ (λ place. 0)
 places-empty = fun_ext at_each
   where
     at_each : (place : ℕ) → places empty place ≡ 0
-    at_each zero = refl
-    at_each (suc zero) = refl
-    at_each (suc (suc zero)) = refl
-    at_each (suc (suc (suc zero))) = refl
-    at_each (suc (suc (suc (suc zero)))) = refl
-    at_each (suc (suc (suc (suc (suc zero))))) = refl
-    at_each (suc (suc (suc (suc (suc (suc zero)))))) = refl
-    at_each (suc (suc (suc (suc (suc (suc (suc zero))))))) = refl
     at_each (suc (suc (suc (suc (suc (suc (suc (suc place)))))))) = refl
+    at_each _ = refl
 
 -- A result stored in a register other than PCL and STATUS.
 pub stored-elsewhere : (at : Place) (result : Outcome) (c : Chip) → ¬ at ≡ place.Pcl → ¬ at ≡ place.Status
     → record c { regs = flagged result.flags (write (reg_of at) result.byte c.regs) } ≡ stored (reg_of at) result c
-stored-elsewhere place.Absent result c p s = refl
-stored-elsewhere place.Indf result c p s = refl
 stored-elsewhere place.Pcl result c p s = absurd (p refl)
 stored-elsewhere place.Status result c p s = absurd (s refl)
-stored-elsewhere place.Fsr result c p s = refl
-stored-elsewhere place.Pclath result c p s = refl
-stored-elsewhere place.Intcon result c p s = refl
-stored-elsewhere place.Pir1 result c p s = refl
-stored-elsewhere place.Pir2 result c p s = refl
-stored-elsewhere place.Pie1 result c p s = refl
-stored-elsewhere place.Pie2 result c p s = refl
-stored-elsewhere (place.Port n) result c p s = refl
-stored-elsewhere (place.Tris n) result c p s = refl
-stored-elsewhere (place.Plain address) result c p s = refl
+stored-elsewhere _ result c p s = refl

@@ -1,12 +1,12 @@
 -- What a boundary does, where the word at the program counter, the request and the register are known by equations; when
 -- an interrupt is taken, and when one is due.
 use Rattle.std.specs.Prelude.{ℕ, suc, ◌+◌, Bool, true, false, not, ◌&&◌, ◌||◌, ◌⊎◌, Option, Some, None}
-use Rattle.std.proofs.Common.{◌≡◌, refl, sym, ap, ◌∙◌, inl, inr}
+use Rattle.std.proofs.Common.{rules, ◌≡◌, refl, sym, ap, ◌∙◌, inl, inr}
 use Rattle.std.proofs.lemmas.Bool.{and_parts}
 use Rattle.pic_isa.specs.declared.instructions.Dest.{Dest}
 use Rattle.pic_isa.specs.declared.instructions.Dest.TheVariants.{W, F}
 use Rattle.pic_isa.specs.declared.instructions.Instr.{Instr}
-use Rattle.pic_isa.specs.declared.instructions.Instr.TheVariants.{Addwf, Andwf, Clrf, Comf, Decf, Decfsz, Incf, Incfsz, Iorwf, Movf, Movwf, Rlf, Rrf, Subwf, Swapf, Xorwf, Bcf, Bsf}
+use Rattle.pic_isa.specs.declared.instructions.Instr.TheVariants.{Nop}
 use Rattle.pic_isa.specs.declared.sources.Source.{Source}
 use Rattle.pic_isa.specs.Instructions.{instruction_of}
 use Rattle.pic_regs.specs.Bytes.{one_if}
@@ -104,25 +104,8 @@ gives-due W reg result c = refl
 gives-due F reg result c = stored-due reg result c
 
 pub exec_on-due : (i : Instr) (reg : Reg) (c : Chip) → due_of c.due (exec_on i reg c) ≡ c.due
-exec_on-due (Addwf f d) reg c = gives-due d reg _ c
-exec_on-due (Andwf f d) reg c = gives-due d reg _ c
-exec_on-due (Clrf f) reg c = stored-due reg _ c
-exec_on-due (Comf f d) reg c = gives-due d reg _ c
-exec_on-due (Decf f d) reg c = gives-due d reg _ c
-exec_on-due (Decfsz f d) reg c = gives-due d reg _ _
-exec_on-due (Incf f d) reg c = gives-due d reg _ c
-exec_on-due (Incfsz f d) reg c = gives-due d reg _ _
-exec_on-due (Iorwf f d) reg c = gives-due d reg _ c
-exec_on-due (Movf f d) reg c = gives-due d reg _ c
-exec_on-due (Movwf f) reg c = stored-due reg _ c
-exec_on-due (Rlf f d) reg c = gives-due d reg _ c
-exec_on-due (Rrf f d) reg c = gives-due d reg _ c
-exec_on-due (Subwf f d) reg c = gives-due d reg _ c
-exec_on-due (Swapf f d) reg c = gives-due d reg _ c
-exec_on-due (Xorwf f d) reg c = gives-due d reg _ c
-exec_on-due (Bcf f b) reg c = stored-due reg _ c
-exec_on-due (Bsf f b) reg c = stored-due reg _ c
-exec_on-due _ reg c = refl
+exec_on-due Nop reg c = refl
+exec_on-due _ reg c = search (rules, gives-due, stored-due)
 
 ended-due : (word : ℕ) (c : Chip) (done : Option Done) → (ended word c done).after.due ≡ due_of c.due done
 ended-due word c (Some done) = refl
@@ -254,21 +237,8 @@ gives-goes_on W reg result word c x = refl
 gives-goes_on F reg result word c x = refl
 
 exec_on-stops : (i : Instr) (reg : Reg) (word : ℕ) (c x : Chip) → is_stop (ended word c (exec_on i reg x)).did ≡ cannot_run (Some i)
-exec_on-stops (Addwf f d) reg word c x = gives-goes_on d reg _ word c _
-exec_on-stops (Andwf f d) reg word c x = gives-goes_on d reg _ word c _
-exec_on-stops (Comf f d) reg word c x = gives-goes_on d reg _ word c _
-exec_on-stops (Decf f d) reg word c x = gives-goes_on d reg _ word c _
-exec_on-stops (Decfsz f d) reg word c x = gives-goes_on d reg _ word c _
-exec_on-stops (Incf f d) reg word c x = gives-goes_on d reg _ word c _
-exec_on-stops (Incfsz f d) reg word c x = gives-goes_on d reg _ word c _
-exec_on-stops (Iorwf f d) reg word c x = gives-goes_on d reg _ word c _
-exec_on-stops (Movf f d) reg word c x = gives-goes_on d reg _ word c _
-exec_on-stops (Rlf f d) reg word c x = gives-goes_on d reg _ word c _
-exec_on-stops (Rrf f d) reg word c x = gives-goes_on d reg _ word c _
-exec_on-stops (Subwf f d) reg word c x = gives-goes_on d reg _ word c _
-exec_on-stops (Swapf f d) reg word c x = gives-goes_on d reg _ word c _
-exec_on-stops (Xorwf f d) reg word c x = gives-goes_on d reg _ word c _
-exec_on-stops _ reg word c x = refl
+exec_on-stops Nop reg word c x = refl
+exec_on-stops _ reg word c x = search (rules, gives-goes_on)
 
 ran-stops : (word : ℕ) (o : Option Instr) (c : Chip) → is_stop (ran word o c).did ≡ cannot_run o
 ran-stops word (Some i) c = exec_on-stops i (operand (field i) c.regs) word c (advanced c)
