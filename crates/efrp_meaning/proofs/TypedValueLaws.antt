@@ -69,90 +69,52 @@ remainder-below m a b h false = omega (arith, mod-le a b)
 -- Both operands are of one type.
 at_one_type : (op : BinOp) (t : Ty) (a b : ℕ) → a < modulus t → b < modulus t → HasValue (binary_type op (Some t) (Some t)) (Some (binary_value op (modulus t) a b))
 at_one_type Or ty.Bool a b first second = truth_number-below (holds a || holds b)
-at_one_type Or U8 a b first second = tt
-at_one_type Or U16 a b first second = tt
 at_one_type And ty.Bool a b first second = truth_number-below (holds a && holds b)
-at_one_type And U8 a b first second = tt
-at_one_type And U16 a b first second = tt
 at_one_type Eq ty.Bool a b first second = truth_number-below (a == b)
 at_one_type Eq U8 a b first second = truth_number-below (a == b)
 at_one_type Eq U16 a b first second = truth_number-below (a == b)
 at_one_type Ne ty.Bool a b first second = truth_number-below (not (a == b))
 at_one_type Ne U8 a b first second = truth_number-below (not (a == b))
 at_one_type Ne U16 a b first second = truth_number-below (not (a == b))
-at_one_type Lt ty.Bool a b first second = tt
 at_one_type Lt U8 a b first second = truth_number-below (nat_lt a b)
 at_one_type Lt U16 a b first second = truth_number-below (nat_lt a b)
-at_one_type Le ty.Bool a b first second = tt
 at_one_type Le U8 a b first second = truth_number-below (nat_le a b)
 at_one_type Le U16 a b first second = truth_number-below (nat_le a b)
-at_one_type Gt ty.Bool a b first second = tt
 at_one_type Gt U8 a b first second = truth_number-below (nat_lt b a)
 at_one_type Gt U16 a b first second = truth_number-below (nat_lt b a)
-at_one_type Ge ty.Bool a b first second = tt
 at_one_type Ge U8 a b first second = truth_number-below (nat_le b a)
 at_one_type Ge U16 a b first second = truth_number-below (nat_le b a)
-at_one_type BitOr ty.Bool a b first second = tt
 at_one_type BitOr U8 a b first second = or_lt 8 a b first second
 at_one_type BitOr U16 a b first second = or_lt 16 a b first second
-at_one_type BitXor ty.Bool a b first second = tt
 at_one_type BitXor U8 a b first second = xor_lt 8 a b first second
 at_one_type BitXor U16 a b first second = xor_lt 16 a b first second
-at_one_type BitAnd ty.Bool a b first second = tt
 at_one_type BitAnd U8 a b first second = omega (arith, and_le_l a b)
 at_one_type BitAnd U16 a b first second = omega (arith, and_le_l a b)
-at_one_type Add ty.Bool a b first second = tt
 at_one_type Add U8 a b first second = mod-lt (a + b) (omega arith)
 at_one_type Add U16 a b first second = mod-lt (a + b) (omega arith)
-at_one_type Sub ty.Bool a b first second = tt
 at_one_type Sub U8 a b first second = mod-lt (a + 256 - b) (omega arith)
 at_one_type Sub U16 a b first second = mod-lt (a + 65536 - b) (omega arith)
-at_one_type Mul ty.Bool a b first second = tt
 at_one_type Mul U8 a b first second = mod-lt (a * b) (omega arith)
 at_one_type Mul U16 a b first second = mod-lt (a * b) (omega arith)
-at_one_type Div ty.Bool a b first second = tt
 at_one_type Div U8 a b first second = quotient-below 256 a b (omega arith) first (b == 0)
 at_one_type Div U16 a b first second = quotient-below 65536 a b (omega arith) first (b == 0)
-at_one_type Rem ty.Bool a b first second = tt
 at_one_type Rem U8 a b first second = remainder-below 256 a b first (b == 0)
 at_one_type Rem U16 a b first second = remainder-below 65536 a b first (b == 0)
+at_one_type _ _ a b first second = tt
 
 -- Two types are alike, or there is none.
 abbrev AreAlike : Option Ty → Option Ty → Type 0
 AreAlike s t = (common_type s t ≡ None) ⊎ ((u : Ty) × (s ≡ Some u) × (t ≡ Some u) × (common_type s t ≡ Some u))
 
 are_alike : (s t : Option Ty) → AreAlike s t
-are_alike None t = inl refl
-are_alike (Some ty.Bool) None = inl refl
-are_alike (Some U8) None = inl refl
-are_alike (Some U16) None = inl refl
 are_alike (Some ty.Bool) (Some ty.Bool) = inr (ty.Bool, refl, refl, refl)
-are_alike (Some ty.Bool) (Some U8) = inl refl
-are_alike (Some ty.Bool) (Some U16) = inl refl
-are_alike (Some U8) (Some ty.Bool) = inl refl
 are_alike (Some U8) (Some U8) = inr (U8, refl, refl, refl)
-are_alike (Some U8) (Some U16) = inl refl
-are_alike (Some U16) (Some ty.Bool) = inl refl
-are_alike (Some U16) (Some U8) = inl refl
 are_alike (Some U16) (Some U16) = inr (U16, refl, refl, refl)
+are_alike _ _ = inl refl
 
 pub no_type : (op : BinOp) (s t : Option Ty) → common_type s t ≡ None → binary_type op s t ≡ None
 no_type Or s t e = rw e refl
-no_type And s t e = rw e refl
-no_type Eq s t e = rw e refl
-no_type Ne s t e = rw e refl
-no_type Lt s t e = rw e refl
-no_type Le s t e = rw e refl
-no_type Gt s t e = rw e refl
-no_type Ge s t e = rw e refl
-no_type BitOr s t e = rw e refl
-no_type BitXor s t e = rw e refl
-no_type BitAnd s t e = rw e refl
-no_type Add s t e = rw e refl
-no_type Sub s t e = rw e refl
-no_type Mul s t e = rw e refl
-no_type Div s t e = rw e refl
-no_type Rem s t e = rw e refl
+no_type _ s t e = rw e refl
 
 of_one_type : (op : BinOp) (t : Ty) (a b : Option ℕ) → HasValue (Some t) a → HasValue (Some t) b → HasValue (binary_type op (Some t) (Some t)) (map_three (binary_value op) (Some (modulus t)) a b)
 of_one_type op t (Some a) (Some b) first second = at_one_type op t a b first second
