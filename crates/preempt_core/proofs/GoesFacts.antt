@@ -5,7 +5,7 @@ use Rattle.std.proofs.lemmas.Bool.Decides.{nat_tests}
 use Rattle.preempt_core.specs.declared.steps.Step.{Step}
 use Rattle.preempt_core.specs.declared.steps.Step.TheVariants as steps
 use Rattle.preempt_core.specs.declared.steps.Done.TheVariants as answers
-use Rattle.preempt_core.specs.Runs.{Active, Told, priority, top_priority, more_urgent, most_urgent, is_void, with_latch, answer, begins, taken, is_left, top_step, arrived, step_from}
+use Rattle.preempt_core.specs.Runs.{Active, Told, priority, top_priority, more_urgent, most_urgent, is_void, with_latch, answer, begins, taken, is_left, top_step, arrived, step_from, start, then_step, told}
 
 pub data Goes (priorities : List ℕ) (react : List ℕ → ℕ → List ℕ) (t : Told) : Told → Type 0 where
   latches : {e : ℕ} → t.latched e ≡ false → Goes priorities react t (record t { answers = answers.Latched e ∷ t.answers; latched = with_latch t.latched e true })
@@ -109,3 +109,13 @@ module _ (priorities : List ℕ) (react : List ℕ → ℕ → List ℕ) (t : To
   goes steps.Redo u h = top_goes steps.Redo t.stack u refl h
   goes steps.Commit u h = top_goes steps.Commit t.stack u refl h
   goes steps.Resume u h = top_goes steps.Resume t.stack u refl h
+
+-- What holds at the start, and after an allowed step where it held before, holds after each list of allowed steps.
+pub after_all : (priorities : List ℕ) (react : List ℕ → ℕ → List ℕ) (first : List ℕ) (P : Told → Type 0) → P (start first) → ((t u : Told) → Goes priorities react t u → P t → P u)
+    → (steps : List Step) (t : Told) → told priorities react first steps ≡ Some t → P t
+after_all priorities react first P starts kept [] t h = let same : start first ≡ t = cc in subst P same starts
+after_all priorities react first P starts kept (s ∷ before) t h = by (told priorities react first before) refl h (after_all priorities react first P starts kept before)
+  where
+    by : (o : Option Told) → told priorities react first before ≡ o → then_step priorities react o s ≡ Some t → ((u : Told) → told priorities react first before ≡ Some u → P u) → P t
+    by None e it rest = absurd cc
+    by (Some u) e it rest = kept u t (goes priorities react u s t it) (rest u e)

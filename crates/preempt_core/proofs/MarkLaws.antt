@@ -5,9 +5,9 @@ use Rattle.std.proofs.lemmas.Bool.Decides.{nat_tests}
 use Rattle.preempt_core.specs.declared.steps.Step.{Step}
 use Rattle.preempt_core.specs.declared.steps.Step.TheVariants as steps
 use Rattle.preempt_core.specs.declared.steps.Done.TheVariants as answers
-use Rattle.preempt_core.specs.Runs.{Active, Told, priority, top_priority, most_urgent, is_void, with_latch, answer, begins, taken, is_left, top_step, arrived, start, step_from, then_step, told}
+use Rattle.preempt_core.specs.Runs.{Active, Told, priority, top_priority, most_urgent, is_void, with_latch, answer, begins, taken, is_left, top_step, arrived, step_from, then_step, told}
 use Rattle.preempt_core.specs.Marks.{Mark, mark_priority, leaves, fresh_mark, take_marked, mark_is_left, top_marked, arrived_marked, marked_step, mark_of, marks_of, answered_if, MarksLookBack}
-use Rattle.preempt_core.proofs.GoesFacts.{Goes, latches, merges, takes, works, redoes, commits, resumes, goes}
+use Rattle.preempt_core.proofs.GoesFacts.{Goes, latches, merges, takes, works, redoes, commits, resumes, after_all}
 
 -- The runs beneath the top one haven't committed, all began within the list, and so did the last commit.
 abbrev Open : ℕ → List Active → Type 0
@@ -165,12 +165,7 @@ module _ (priorities : List ℕ) (react : List ℕ → ℕ → List ℕ) (first 
       record { last = omega arith; beneath = open_beneath (suc (length t.answers)) rs (open_later (length t.answers) rs o.1) }
 
   all_within : (steps : List Step) (t : Told) → told priorities react first steps ≡ Some t → Within t
-  all_within [] t h = let same : start first ≡ t = cc in subst Within same (record { last = omega arith; beneath = tt })
-  all_within (s ∷ before) t h = by (told priorities react first before) refl h (all_within before)
-    where
-      by : (o : Option Told) → told priorities react first before ≡ o → then_step priorities react o s ≡ Some t → ((u : Told) → told priorities react first before ≡ Some u → Within u) → Within t
-      by None e it rest = absurd cc
-      by (Some u) e it rest = kept u t (goes priorities react u s t it) (rest u e)
+  all_within = after_all priorities react first Within (record { last = omega arith; beneath = tt }) kept
 
 pub marks_look_back : MarksLookBack
 marks_look_back priorities react first before t s h =

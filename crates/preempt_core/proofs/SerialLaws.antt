@@ -1,11 +1,11 @@
 -- After each list of allowed steps what was committed is one serial run.
-use Rattle.std.specs.Prelude.{ℕ, suc, ◌+◌, ◌<◌, ◌≤◌, ◌==◌, Bool, true, false, ◌&&◌, not, nat_lt, List, [], ◌∷◌, length, Option, Some, None, if◌then◌else◌}
+use Rattle.std.specs.Prelude.{ℕ, suc, ◌+◌, ◌<◌, ◌≤◌, ◌==◌, Bool, true, false, ◌&&◌, not, nat_lt, List, [], ◌∷◌, length, Some, if◌then◌else◌}
 use Rattle.std.proofs.Common.{◌≡◌, refl, ap, subst, ◌∙◌, arith}
 use Rattle.std.proofs.lemmas.Bool.Decides.{nat_tests}
 use Rattle.preempt_core.specs.declared.steps.Step.{Step}
-use Rattle.preempt_core.specs.Runs.{Active, Told, with_latch, start, then_step, told}
+use Rattle.preempt_core.specs.Runs.{Active, Told, with_latch, start, told}
 use Rattle.preempt_core.specs.Serial.{one, uncommitted, Rising, ReadsPresent, Lawful, AlwaysLawful}
-use Rattle.preempt_core.proofs.GoesFacts.{Goes, latches, merges, takes, works, redoes, commits, resumes, goes}
+use Rattle.preempt_core.proofs.GoesFacts.{Goes, latches, merges, takes, works, redoes, commits, resumes, after_all}
 
 -- Each run began within the list.
 abbrev BeganBy : ℕ → List Active → Type 0
@@ -42,6 +42,12 @@ module _ (priorities : List ℕ) (react : List ℕ → ℕ → List ℕ) (first 
   record Kept (t : Told) : Type 0 where
     lawful : Lawful priorities react first t
     began : BeganBy (length t.answers) t.stack
+
+  -- What is known of a list of runs, where it is the stack.
+  record Stands (t : Told) (st : List Active) : Type 0 where
+    rising : Rising priorities st
+    began : BeganBy (length t.answers) st
+    present : ReadsPresent t.last t.state st
 
   -- The runs beneath one that commits are void from then on.
   beneath_void : (n : ℕ) (state : List ℕ) (st : List Active) → BeganBy n st → ReadsPresent (suc n) state st
@@ -88,55 +94,44 @@ module _ (priorities : List ℕ) (react : List ℕ → ℕ → List ℕ) (first 
         began = began_later (length t.answers) t.stack k.began;
       }
   kept t u (redoes {r = r} {rs = rs} stands open_run) k =
-      let rising = subst (Rising priorities) stands k.lawful.rising in
-      let began = subst (BeganBy (length t.answers)) stands k.began in
-      let present = subst (ReadsPresent t.last t.state) stands k.lawful.present in
+      let on = subst (Stands t) stands (record { rising = k.lawful.rising; began = k.began; present = k.lawful.present }) in
       record {
         lawful = record {
-          rising = (rising.0, rising.1);
+          rising = (on.rising.0, on.rising.1);
           once = λ x. omega (arith, k.lawful.once x, ap (uncommitted x) stands, and_one (x == r.event) r.committed open_run, and_one (x == r.event) false refl);
-          present = (λ _ clean. refl, present.1);
+          present = (λ _ clean. refl, on.present.1);
           is_serial = k.lawful.is_serial;
         };
-        began = (omega arith, began_later (length t.answers) rs began.1);
+        began = (omega arith, began_later (length t.answers) rs on.began.1);
       }
   kept t u (commits {r = r} {rs = rs} stands open_run clean) k =
-      let rising = subst (Rising priorities) stands k.lawful.rising in
-      let began = subst (BeganBy (length t.answers)) stands k.began in
-      let present = subst (ReadsPresent t.last t.state) stands k.lawful.present in
+      let on = subst (Stands t) stands (record { rising = k.lawful.rising; began = k.began; present = k.lawful.present }) in
       record {
         lawful = record {
-          rising = (rising.0, rising.1);
+          rising = (on.rising.0, on.rising.1);
           once = λ x. omega (arith, k.lawful.once x, ap (uncommitted x) stands, and_one (x == r.event) r.committed open_run, and_none (x == r.event) true refl);
-          present = (λ closed _. absurd cc, beneath_void (length t.answers) _ rs began.1);
-          is_serial = ap (λ s. react s r.event) (present.0 open_run clean ∙ k.lawful.is_serial);
+          present = (λ closed _. absurd cc, beneath_void (length t.answers) _ rs on.began.1);
+          is_serial = ap (λ s. react s r.event) (on.present.0 open_run clean ∙ k.lawful.is_serial);
         };
-        began = (let low = began.0 in omega arith, began_later (length t.answers) rs began.1);
+        began = (let low = on.began.0 in omega arith, began_later (length t.answers) rs on.began.1);
       }
   kept t u (resumes {r = r} {rs = rs} stands closed) k =
-      let rising = subst (Rising priorities) stands k.lawful.rising in
-      let began = subst (BeganBy (length t.answers)) stands k.began in
-      let present = subst (ReadsPresent t.last t.state) stands k.lawful.present in
+      let on = subst (Stands t) stands (record { rising = k.lawful.rising; began = k.began; present = k.lawful.present }) in
       record {
         lawful = record {
-          rising = rising.1;
+          rising = on.rising.1;
           once = λ x. omega (arith, k.lawful.once x, ap (uncommitted x) stands, and_none (x == r.event) r.committed closed);
-          present = present.1;
+          present = on.present.1;
           is_serial = k.lawful.is_serial;
         };
-        began = began_later (length t.answers) rs began.1;
+        began = began_later (length t.answers) rs on.began.1;
       }
 
   starts : Kept (start first)
   starts = record { lawful = record { rising = tt; once = λ x. refl; present = tt; is_serial = refl }; began = tt }
 
   all_kept : (steps : List Step) (t : Told) → told priorities react first steps ≡ Some t → Kept t
-  all_kept [] t h = let same : start first ≡ t = cc in subst Kept same starts
-  all_kept (s ∷ before) t h = by (told priorities react first before) refl h (all_kept before)
-    where
-      by : (o : Option Told) → told priorities react first before ≡ o → then_step priorities react o s ≡ Some t → ((u : Told) → told priorities react first before ≡ Some u → Kept u) → Kept t
-      by None e it rest = absurd cc
-      by (Some u) e it rest = kept u t (goes priorities react u s t it) (rest u e)
+  all_kept = after_all priorities react first Kept starts kept
 
 pub always_lawful : AlwaysLawful
 always_lawful priorities react first steps t h = (all_kept priorities react first steps t h).lawful
