@@ -50,14 +50,6 @@ number_of-set_of n below =
     omega (arith, below, one_if-odd (n / 1), one_if-odd (n / 2), one_if-odd (n / 4), one_if-odd (n / 8), one_if-odd (n / 16), one_if-odd (n / 32), one_if-odd (n / 64), one_if-odd (n / 128), one_if-odd (n / 256), one_if-odd (n / 512), one_if-odd (n / 1024))
 
 pub set_of-number_of : (set : Sources) (source : Source) → set_of (number_of set) source ≡ set source
-set_of-number_of set T0 = bit-num (set T0) (number_of set / 1) (omega (arith, one_if-small (set T0)))
-set_of-number_of set Int = bit-num (set Int) (number_of set / 2) (omega (arith, one_if-small (set T0), one_if-small (set Int)))
-set_of-number_of set Psp = bit-num (set Psp) (number_of set / 4) (omega (arith, one_if-small (set T0), one_if-small (set Int), one_if-small (set Psp)))
-set_of-number_of set Ad = bit-num (set Ad) (number_of set / 8) (omega (arith, one_if-small (set T0), one_if-small (set Int), one_if-small (set Psp), one_if-small (set Ad)))
-set_of-number_of set Ssp = bit-num (set Ssp) (number_of set / 16) (omega (arith, one_if-small (set T0), one_if-small (set Int), one_if-small (set Psp), one_if-small (set Ad), one_if-small (set Ssp)))
-set_of-number_of set Ccp1 = bit-num (set Ccp1) (number_of set / 32) (omega (arith, one_if-small (set T0), one_if-small (set Int), one_if-small (set Psp), one_if-small (set Ad), one_if-small (set Ssp), one_if-small (set Ccp1)))
-set_of-number_of set Tmr2 = bit-num (set Tmr2) (number_of set / 64) (omega (arith, one_if-small (set T0), one_if-small (set Int), one_if-small (set Psp), one_if-small (set Ad), one_if-small (set Ssp), one_if-small (set Ccp1), one_if-small (set Tmr2)))
-set_of-number_of set Tmr1 = bit-num (set Tmr1) (number_of set / 128) (omega (arith, one_if-small (set T0), one_if-small (set Int), one_if-small (set Psp), one_if-small (set Ad), one_if-small (set Ssp), one_if-small (set Ccp1), one_if-small (set Tmr2), one_if-small (set Tmr1)))
-set_of-number_of set Ee = bit-num (set Ee) (number_of set / 256) (omega (arith, one_if-small (set T0), one_if-small (set Int), one_if-small (set Psp), one_if-small (set Ad), one_if-small (set Ssp), one_if-small (set Ccp1), one_if-small (set Tmr2), one_if-small (set Tmr1), one_if-small (set Ee)))
-set_of-number_of set Bcl = bit-num (set Bcl) (number_of set / 512) (omega (arith, one_if-small (set T0), one_if-small (set Int), one_if-small (set Psp), one_if-small (set Ad), one_if-small (set Ssp), one_if-small (set Ccp1), one_if-small (set Tmr2), one_if-small (set Tmr1), one_if-small (set Ee), one_if-small (set Bcl)))
-set_of-number_of set Ccp2 = bit-num (set Ccp2) (number_of set / 1024) (omega (arith, one_if-small (set T0), one_if-small (set Int), one_if-small (set Psp), one_if-small (set Ad), one_if-small (set Ssp), one_if-small (set Ccp1), one_if-small (set Tmr2), one_if-small (set Tmr1), one_if-small (set Ee), one_if-small (set Bcl), one_if-small (set Ccp2)))
+set_of-number_of set T0 = bit-num _ (number_of set / 1) (omega (arith, one_if-small (set T0)))
+set_of-number_of set _ =
+    bit-num _ _ (omega (arith, one_if-small (set T0), one_if-small (set Int), one_if-small (set Psp), one_if-small (set Ad), one_if-small (set Ssp), one_if-small (set Ccp1), one_if-small (set Tmr2), one_if-small (set Tmr1), one_if-small (set Ee), one_if-small (set Bcl), one_if-small (set Ccp2)))

@@ -1,8 +1,8 @@
 // Which bits of a register exist, and which a write changes.
 
-ghost use Rattle.std.specs.Prelude.{◌≡◌, ◌<◌};
+ghost use Rattle.std.specs.Prelude.{◌≡◌, ◌≢◌, ◌<◌};
 ghost use Rattle.pic_regs.specs.Bytes.{Byte, bits, chosen, zeros};
-ghost use Rattle.pic_regs.specs.Map.{existing, over, over_port, over_tris, port_bits, tris_bits};
+ghost use Rattle.pic_regs.specs.Map.{Status, existing, over, over_port, over_tris, port_bits, tris_bits};
 ghost use Rattle.pic_regs.specs.Places.{IsPlace, reg_of};
 
 use crate::bytes::select;
@@ -34,10 +34,11 @@ fn tris_mask(port: u8) -> u8
     }
 }
 
-// The bits of a register that exist, as ones.
+// The bits of a register that exist, as ones. A write changes just these, but for those of STATUS.
 pub(crate) fn existing_mask(place: Place) -> u8
     requires { IsPlace place }
-    ensures { (x : Byte) → chosen (bits result) zeros x ≡ existing (reg_of place) x }
+    ensures exist { (x : Byte) → chosen (bits result) zeros x ≡ existing (reg_of place) x }
+    ensures written { reg_of place ≢ Status → (old x : Byte) → chosen (bits result) old x ≡ over (reg_of place) old x }
 {
     match place {
         Place::Pclath => 0x1F,
@@ -56,12 +57,7 @@ pub(crate) fn written_mask(place: Place) -> u8
 {
     match place {
         Place::Status => 0xE7,
-        Place::Pclath => 0x1F,
-        Place::Pir1 => 0xCF,
-        Place::Pir2 => 0x19,
-        Place::Port(n) => port_mask(n),
-        Place::Tris(n) => tris_mask(n),
-        _ => 0xFF,
+        _ => existing_mask(place),
     }
 }
 
