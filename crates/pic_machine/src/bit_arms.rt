@@ -1,5 +1,5 @@
 // Instructions that clear, count, set or test.
-ghost use Rattle.std.specs.Prelude.{◌≡◌, ◌<◌, Some};
+ghost use Rattle.std.specs.Prelude.{◌≡◌, ◌<◌, if◌then◌else◌, Some};
 ghost use Rattle.pic_regs.specs.Bytes.{bits};
 ghost use Rattle.pic_regs.specs.Places.{IsPlace, reg_of};
 ghost use Rattle.pic_machine.specs.Exec.{counts, exec};
@@ -61,45 +61,26 @@ impl Cpu {
         self.count(d, operand.place, increment(operand.byte))
     }
 
-    // Bit b of f = 0.
-    pub(crate) fn bcf(&mut self, f: u8, b: u8) -> Effect
+    // Bit b of f made what is given.
+    pub(crate) fn make_bit(&mut self, f: u8, b: u8, value: bool) -> Effect
         requires f { f < 128 }
         requires b { b < 8 }
-        ensures { exec (Instr.Bcf f b) (cpu_of self.old) ≡ done_of (Some result) (cpu_of self.new) }
+        ensures { exec (if value then Instr.Bsf f b else Instr.Bcf f b) (cpu_of self.old)
+            ≡ done_of (Some result) (cpu_of self.new) }
     {
         let operand = self.operand(f);
-        self.give_register(operand.place, just(set_bit(operand.byte, b, false)))
+        self.give_register(operand.place, just(set_bit(operand.byte, b, value)))
     }
 
-    // Bit b of f = 1.
-    pub(crate) fn bsf(&mut self, f: u8, b: u8) -> Effect
+    // Skip if bit b of f is what is given.
+    pub(crate) fn skip_at(&mut self, f: u8, b: u8, value: bool) -> Effect
         requires f { f < 128 }
         requires b { b < 8 }
-        ensures { exec (Instr.Bsf f b) (cpu_of self.old) ≡ done_of (Some result) (cpu_of self.new) }
+        ensures { exec (if value then Instr.Btfss f b else Instr.Btfsc f b) (cpu_of self.old)
+            ≡ done_of (Some result) (cpu_of self.new) }
     {
         let operand = self.operand(f);
-        self.give_register(operand.place, just(set_bit(operand.byte, b, true)))
-    }
-
-    // Skip if bit b of f is 0.
-    pub(crate) fn btfsc(&mut self, f: u8, b: u8) -> Effect
-        requires f { f < 128 }
-        requires b { b < 8 }
-        ensures { exec (Instr.Btfsc f b) (cpu_of self.old) ≡ done_of (Some result) (cpu_of self.new) }
-    {
-        let operand = self.operand(f);
-        self.skip_if(!bit_is_set(operand.byte, b));
-        no_effect()
-    }
-
-    // Skip if bit b of f is 1.
-    pub(crate) fn btfss(&mut self, f: u8, b: u8) -> Effect
-        requires f { f < 128 }
-        requires b { b < 8 }
-        ensures { exec (Instr.Btfss f b) (cpu_of self.old) ≡ done_of (Some result) (cpu_of self.new) }
-    {
-        let operand = self.operand(f);
-        self.skip_if(bit_is_set(operand.byte, b));
+        self.skip_if(bit_is_set(operand.byte, b) == value);
         no_effect()
     }
 }
