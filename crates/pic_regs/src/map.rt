@@ -1,81 +1,34 @@
 // What a data address means.
 
 ghost use Rattle.std.specs.Prelude.{◌≡◌, ◌/◌, ◌%◌, ◌<◌};
-ghost use Rattle.pic_regs.specs.Map.{in_bank, in_bank_0, in_bank_1, in_bank_2, in_bank_3, lowest, reg_at, reg_in};
+ghost use Rattle.pic_regs.specs.Map.{in_bank, lowest, reg_at, reg_in};
 ghost use Rattle.pic_regs.specs.Map.{canonical as lowest_at};
 ghost use Rattle.pic_regs.specs.Places.{IsPlace, reg_of};
 
 use crate::places::Place;
 
-// The registers of bank 0, by the low seven bits of the address, but for those that are in each bank.
-fn place_in_bank_0(f: u8) -> Place
-    requires { f < 128 }
-    ensures place { reg_of result ≡ in_bank_0 f }
-    ensures in_range { IsPlace result }
-{
-    match f {
-        0x05..=0x09 => Place::Port(f - 0x05),
-        0x0C => Place::Pir1,
-        0x0D => Place::Pir2,
-        _ => Place::Plain(u16::from(f)),
-    }
-}
-
-// Those of bank 1.
-fn place_in_bank_1(f: u8) -> Place
-    requires { f < 128 }
-    ensures place { reg_of result ≡ in_bank_1 f }
-    ensures in_range { IsPlace result }
-{
-    match f {
-        0x05..=0x09 => Place::Tris(f - 0x05),
-        0x0C => Place::Pie1,
-        0x0D => Place::Pie2,
-        0x0F | 0x10 | 0x15..=0x17 | 0x1A..=0x1D => Place::Absent,
-        _ => Place::Plain(0x080 + u16::from(f)),
-    }
-}
-
-// Those of bank 2.
-fn place_in_bank_2(f: u8) -> Place
-    requires { f < 128 }
-    ensures place { reg_of result ≡ in_bank_2 f }
-    ensures in_range { IsPlace result }
-{
-    match f {
-        0x01 => Place::Plain(0x001),
-        0x06 => Place::Port(1),
-        0x05 | 0x07..=0x09 => Place::Absent,
-        _ => Place::Plain(0x100 + u16::from(f)),
-    }
-}
-
-// Those of bank 3.
-fn place_in_bank_3(f: u8) -> Place
-    requires { f < 128 }
-    ensures place { reg_of result ≡ in_bank_3 f }
-    ensures in_range { IsPlace result }
-{
-    match f {
-        0x01 => Place::Plain(0x081),
-        0x06 => Place::Tris(1),
-        0x05 | 0x07..=0x09 | 0x0E | 0x0F => Place::Absent,
-        _ => Place::Plain(0x180 + u16::from(f)),
-    }
-}
-
-// Those of a bank.
+// The registers of a bank, by the low seven bits of the address, but for those that are in each bank.
 fn place_in_one_bank(bank: u8, f: u8) -> Place
     requires bank { bank < 4 }
     requires f { f < 128 }
     ensures place { reg_of result ≡ in_bank bank f }
     ensures in_range { IsPlace result }
 {
-    match bank {
-        0 => place_in_bank_0(f),
-        1 => place_in_bank_1(f),
-        2 => place_in_bank_2(f),
-        _ => place_in_bank_3(f),
+    match (bank, f) {
+        (0, 0x05..=0x09) => Place::Port(f - 0x05),
+        (0, 0x0C) => Place::Pir1,
+        (0, 0x0D) => Place::Pir2,
+        (1, 0x05..=0x09) => Place::Tris(f - 0x05),
+        (1, 0x0C) => Place::Pie1,
+        (1, 0x0D) => Place::Pie2,
+        (1, 0x0F | 0x10 | 0x15..=0x17 | 0x1A..=0x1D) => Place::Absent,
+        (2, 0x01) => Place::Plain(0x001),
+        (2, 0x06) => Place::Port(1),
+        (2, 0x05 | 0x07..=0x09) => Place::Absent,
+        (3, 0x01) => Place::Plain(0x081),
+        (3, 0x06) => Place::Tris(1),
+        (3, 0x05 | 0x07..=0x09 | 0x0E | 0x0F) => Place::Absent,
+        _ => Place::Plain(128 * u16::from(bank) + u16::from(f)),
     }
 }
 

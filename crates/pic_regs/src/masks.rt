@@ -2,37 +2,11 @@
 
 ghost use Rattle.std.specs.Prelude.{◌≡◌, ◌≢◌, ◌<◌};
 ghost use Rattle.pic_regs.specs.Bytes.{Byte, bits, chosen, zeros};
-ghost use Rattle.pic_regs.specs.Map.{Status, existing, over, over_port, over_tris, port_bits, tris_bits};
+ghost use Rattle.pic_regs.specs.Map.{Status, existing, over};
 ghost use Rattle.pic_regs.specs.Places.{IsPlace, reg_of};
 
 use crate::bytes::select;
 use crate::places::Place;
-
-// The bits of a port that exist, as ones.
-fn port_mask(port: u8) -> u8
-    requires { port < 5 }
-    ensures exist { (x : Byte) → chosen (bits result) zeros x ≡ port_bits port x }
-    ensures written { (old x : Byte) → chosen (bits result) old x ≡ over_port port old x }
-{
-    match port {
-        0 => 0x3F,
-        4 => 0x07,
-        _ => 0xFF,
-    }
-}
-
-// Those of its TRIS.
-fn tris_mask(port: u8) -> u8
-    requires { port < 5 }
-    ensures exist { (x : Byte) → chosen (bits result) zeros x ≡ tris_bits port x }
-    ensures written { (old x : Byte) → chosen (bits result) old x ≡ over_tris port old x }
-{
-    match port {
-        0 => 0x3F,
-        4 => 0xF7,
-        _ => 0xFF,
-    }
-}
 
 // The bits of a register that exist, as ones. A write changes just these, but for those of STATUS.
 pub(crate) fn existing_mask(place: Place) -> u8
@@ -44,8 +18,9 @@ pub(crate) fn existing_mask(place: Place) -> u8
         Place::Pclath => 0x1F,
         Place::Pir1 => 0xCF,
         Place::Pir2 => 0x19,
-        Place::Port(n) => port_mask(n),
-        Place::Tris(n) => tris_mask(n),
+        Place::Port(0) | Place::Tris(0) => 0x3F,
+        Place::Port(4) => 0x07,
+        Place::Tris(4) => 0xF7,
         _ => 0xFF,
     }
 }
