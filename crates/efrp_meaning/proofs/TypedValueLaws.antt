@@ -1,8 +1,8 @@
 -- An expression that has a type has a value of that type, where the names in it have values of theirs.
-use Rattle.std.specs.Prelude.{◌≡◌, ℕ, ◌+◌, ◌-◌, ◌*◌, ◌/◌, ◌%◌, ◌^◌, ◌<◌, ◌≤◌, Bool, true, false, not, ◌&&◌, ◌||◌, ◌==◌, ◌⊎◌, nat_le, nat_lt, zero, suc, List, [], ◌∷◌, ◌++◌, length, slice_get, Option, Some, None, option_map, option_and_then, if◌then◌else◌, refl}
+use Rattle.std.specs.Prelude.{◌≡◌, ℕ, ◌+◌, ◌-◌, ◌*◌, ◌/◌, ◌%◌, ◌^◌, ◌<◌, ◌≤◌, Bool, true, false, not, ◌||◌, ◌==◌, ◌⊎◌, nat_le, nat_lt, zero, suc, List, [], ◌∷◌, ◌++◌, length, slice_get, Option, Some, None, option_map, option_and_then, if◌then◌else◌, refl}
 use Rattle.std.specs.List.{AllByRecursion, list_any, last_or}
 use Rattle.std.specs.Str.{bytes_eq}
-use Rattle.std.proofs.Common.{ap, subst, ◌∙◌, arith}
+use Rattle.std.proofs.Common.{rules, ap, subst, ◌∙◌, arith}
 use Rattle.std.proofs.lemmas.Slice.Eq.{bytes_eq-Decides}
 use Rattle.std.proofs.lemmas.List.Folds.{list_any-append}
 use Rattle.std.proofs.Math.Nat.{mod-lt, mod-le, div-le_self}
@@ -17,7 +17,7 @@ use Rattle.frp_tree.specs.declared.syntax.Lit.TheVariants as lit
 use Rattle.frp_tree.specs.declared.syntax.UnOp.{UnOp}
 use Rattle.frp_tree.specs.declared.syntax.UnOp.TheVariants.{Com, Not}
 use Rattle.frp_tree.specs.declared.syntax.BinOp.{BinOp}
-use Rattle.frp_tree.specs.declared.syntax.BinOp.TheVariants.{Or, And, Eq, Ne, Lt, Le, Gt, Ge, BitOr, BitXor, BitAnd, Add, Sub, Mul, Div, Rem}
+use Rattle.frp_tree.specs.declared.syntax.BinOp.TheVariants.{Or, BitOr, BitXor, BitAnd, Add, Sub, Mul, Div, Rem}
 use Rattle.frp_tree.specs.declared.syntax.Side.{Side}
 use Rattle.frp_tree.specs.declared.syntax.Side.TheVariants.{Left, Right}
 use Rattle.frp_tree.specs.Tree.{Tree, Const, Name, Unary, Binary, Shift, If, Convert, Look, BehaviourTree, Plain, Input, Table, Reactive, DeclTree, ProgramTree}
@@ -68,22 +68,6 @@ remainder-below m a b h false = omega (arith, mod-le a b)
 
 -- Both operands are of one type.
 at_one_type : (op : BinOp) (t : Ty) (a b : ℕ) → a < modulus t → b < modulus t → HasValue (binary_type op (Some t) (Some t)) (Some (binary_value op (modulus t) a b))
-at_one_type Or ty.Bool a b first second = truth_number-below (holds a || holds b)
-at_one_type And ty.Bool a b first second = truth_number-below (holds a && holds b)
-at_one_type Eq ty.Bool a b first second = truth_number-below (a == b)
-at_one_type Eq U8 a b first second = truth_number-below (a == b)
-at_one_type Eq U16 a b first second = truth_number-below (a == b)
-at_one_type Ne ty.Bool a b first second = truth_number-below (not (a == b))
-at_one_type Ne U8 a b first second = truth_number-below (not (a == b))
-at_one_type Ne U16 a b first second = truth_number-below (not (a == b))
-at_one_type Lt U8 a b first second = truth_number-below (nat_lt a b)
-at_one_type Lt U16 a b first second = truth_number-below (nat_lt a b)
-at_one_type Le U8 a b first second = truth_number-below (nat_le a b)
-at_one_type Le U16 a b first second = truth_number-below (nat_le a b)
-at_one_type Gt U8 a b first second = truth_number-below (nat_lt b a)
-at_one_type Gt U16 a b first second = truth_number-below (nat_lt b a)
-at_one_type Ge U8 a b first second = truth_number-below (nat_le b a)
-at_one_type Ge U16 a b first second = truth_number-below (nat_le b a)
 at_one_type BitOr U8 a b first second = or_lt 8 a b first second
 at_one_type BitOr U16 a b first second = or_lt 16 a b first second
 at_one_type BitXor U8 a b first second = xor_lt 8 a b first second
@@ -100,7 +84,7 @@ at_one_type Div U8 a b first second = quotient-below 256 a b (omega arith) first
 at_one_type Div U16 a b first second = quotient-below 65536 a b (omega arith) first (b == 0)
 at_one_type Rem U8 a b first second = remainder-below 256 a b first (b == 0)
 at_one_type Rem U16 a b first second = remainder-below 65536 a b first (b == 0)
-at_one_type _ _ a b first second = tt
+at_one_type _ _ a b first second = search (rules, truth_number-below)
 
 -- Two types are alike, or there is none.
 abbrev AreAlike : Option Ty → Option Ty → Type 0
