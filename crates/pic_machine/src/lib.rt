@@ -6,7 +6,6 @@
 //! computed examples. The promises of the firmware stand on this crate.
 #![tactic(auto)]
 
-mod bit_arms;
 mod chip;
 mod constant_arms;
 mod control_arms;

@@ -1,12 +1,15 @@
 // The register that an instruction names, and the byte that it reads there.
-ghost use Rattle.std.specs.Prelude.{◌≡◌, ◌<◌};
+ghost use Rattle.std.specs.Prelude.{◌≡◌, ◌<◌, IfSome};
+ghost use Rattle.pic_isa.specs.Instructions.{FieldsFit};
 ghost use Rattle.pic_regs.specs.Bytes.{bits};
 ghost use Rattle.pic_regs.specs.Places.{IsPlace, reg_of};
 ghost use Rattle.pic_machine.specs.Chip.{advanced, got, named, through};
+ghost use Rattle.pic_machine.specs.Exec.{field};
 ghost use Rattle.pic_machine.specs.State.{cpu_of};
 
 use crate::cpu::Cpu;
 use crate::results::low_byte;
+use pic_isa::Instr;
 use pic_regs::{Place, place_at, place_in};
 
 // An instruction's register, and the byte that the instruction reads there.
@@ -14,6 +17,37 @@ use pic_regs::{Place, place_at, place_in};
 pub(crate) struct Operand {
     pub(crate) place: Place,
     pub(crate) byte: u8,
+}
+
+// The seven bits that name an instruction's register, where it has one.
+pub(crate) fn named_field(i: &Instr) -> Option<u8>
+    requires { FieldsFit i.now }
+    ensures field { result ≡ field i.now }
+    ensures in_range { IfSome result (λ f. f < 128) }
+{
+    match *i {
+        Instr::Addwf { f, .. }
+        | Instr::Andwf { f, .. }
+        | Instr::Clrf { f }
+        | Instr::Comf { f, .. }
+        | Instr::Decf { f, .. }
+        | Instr::Decfsz { f, .. }
+        | Instr::Incf { f, .. }
+        | Instr::Incfsz { f, .. }
+        | Instr::Iorwf { f, .. }
+        | Instr::Movf { f, .. }
+        | Instr::Movwf { f }
+        | Instr::Rlf { f, .. }
+        | Instr::Rrf { f, .. }
+        | Instr::Subwf { f, .. }
+        | Instr::Swapf { f, .. }
+        | Instr::Xorwf { f, .. }
+        | Instr::Bcf { f, .. }
+        | Instr::Bsf { f, .. }
+        | Instr::Btfsc { f, .. }
+        | Instr::Btfss { f, .. } => Some(f),
+        _ => None,
+    }
 }
 
 impl Cpu {

@@ -1,124 +1,82 @@
-// Instructions on a register, with a destination.
+// Instructions on a register.
 ghost use Rattle.std.specs.Prelude.{◌≡◌, ◌<◌, Some};
-ghost use Rattle.pic_machine.specs.Exec.{exec};
+ghost use Rattle.pic_isa.specs.Instructions.{FieldsFit};
+ghost use Rattle.pic_regs.specs.Bytes.{bits};
+ghost use Rattle.pic_regs.specs.Places.{IsPlace, reg_of};
+ghost use Rattle.pic_machine.specs.Chip.{skipping};
+ghost use Rattle.pic_machine.specs.Exec.{counts, exec, field};
+ghost use Rattle.pic_machine.specs.Results.{leaves};
 ghost use Rattle.pic_machine.specs.State.{cpu_of, done_of};
 
 use crate::cpu::Cpu;
+use crate::destination::no_effect;
 use crate::effects::Effect;
+use crate::operands::Operand;
 use crate::results::{
     decrement, difference, increment, just, rotated_left, rotated_right, sum, tested,
 };
 use pic_isa::{Dest, Instr};
-use pic_regs::bytes::{both, complement, differing, either, swap_halves};
+use pic_regs::Place;
+use pic_regs::bytes::{
+    bit_is_set, both, complement, differing, either, has_no_bit, set_bit, swap_halves,
+};
 
 impl Cpu {
-    // W + f: C, DC, Z.
-    pub(crate) fn addwf(&mut self, f: u8, d: Dest) -> Effect
-        requires { f < 128 }
-        ensures { exec (Instr.Addwf f d) (cpu_of self.old) ≡ done_of (Some result) (cpu_of self.new) }
+    // Leaves a count, and goes past the next instruction where it is 0. A count written to PCL leads away all
+    // the same.
+    fn count(&mut self, d: Dest, place: Place, byte: u8) -> Effect
+        requires { IsPlace place }
+        ensures { counts d (reg_of place) (bits byte) (cpu_of self.old)
+            ≡ done_of (Some result) (cpu_of self.new) }
     {
-        let operand = self.operand(f);
-        self.give(d, operand.place, sum(self.w, operand.byte))
+        self.skip_if(has_no_bit(byte));
+        self.give(d, place, just(byte))
     }
 
-    // W and f: Z.
-    pub(crate) fn andwf(&mut self, f: u8, d: Dest) -> Effect
-        requires { f < 128 }
-        ensures { exec (Instr.Andwf f d) (cpu_of self.old) ≡ done_of (Some result) (cpu_of self.new) }
+    // Goes past the next instruction where the test holds.
+    fn skip(&mut self, test: bool) -> Effect
+        ensures { leaves (skipping test (cpu_of self.old)) ≡ done_of (Some result) (cpu_of self.new) }
     {
-        let operand = self.operand(f);
-        self.give(d, operand.place, tested(both(self.w, operand.byte)))
+        self.skip_if(test);
+        no_effect()
     }
 
-    // Complement of f: Z.
-    pub(crate) fn comf(&mut self, f: u8, d: Dest) -> Effect
-        requires { f < 128 }
-        ensures { exec (Instr.Comf f d) (cpu_of self.old) ≡ done_of (Some result) (cpu_of self.new) }
+    // Runs an instruction on a register, which seven of its bits name.
+    pub(crate) fn exec_on(&mut self, i: &Instr, f: u8) -> Effect
+        requires row { field i.now ≡ Some f }
+        requires in_range { f < 128 }
+        requires fit { FieldsFit i.now }
+        ensures { exec i.now (cpu_of self.old) ≡ done_of (Some result) (cpu_of self.new) }
     {
-        let operand = self.operand(f);
-        self.give(d, operand.place, tested(complement(operand.byte)))
-    }
-
-    // f - 1: Z.
-    pub(crate) fn decf(&mut self, f: u8, d: Dest) -> Effect
-        requires { f < 128 }
-        ensures { exec (Instr.Decf f d) (cpu_of self.old) ≡ done_of (Some result) (cpu_of self.new) }
-    {
-        let operand = self.operand(f);
-        self.give(d, operand.place, tested(decrement(operand.byte)))
-    }
-
-    // f + 1: Z.
-    pub(crate) fn incf(&mut self, f: u8, d: Dest) -> Effect
-        requires { f < 128 }
-        ensures { exec (Instr.Incf f d) (cpu_of self.old) ≡ done_of (Some result) (cpu_of self.new) }
-    {
-        let operand = self.operand(f);
-        self.give(d, operand.place, tested(increment(operand.byte)))
-    }
-
-    // W or f: Z.
-    pub(crate) fn iorwf(&mut self, f: u8, d: Dest) -> Effect
-        requires { f < 128 }
-        ensures { exec (Instr.Iorwf f d) (cpu_of self.old) ≡ done_of (Some result) (cpu_of self.new) }
-    {
-        let operand = self.operand(f);
-        self.give(d, operand.place, tested(either(self.w, operand.byte)))
-    }
-
-    // f: Z.
-    pub(crate) fn movf(&mut self, f: u8, d: Dest) -> Effect
-        requires { f < 128 }
-        ensures { exec (Instr.Movf f d) (cpu_of self.old) ≡ done_of (Some result) (cpu_of self.new) }
-    {
-        let operand = self.operand(f);
-        self.give(d, operand.place, tested(operand.byte))
-    }
-
-    // f left through C: C.
-    pub(crate) fn rlf(&mut self, f: u8, d: Dest) -> Effect
-        requires { f < 128 }
-        ensures { exec (Instr.Rlf f d) (cpu_of self.old) ≡ done_of (Some result) (cpu_of self.new) }
-    {
-        let operand = self.operand(f);
-        let carry = self.regs.carry();
-        self.give(d, operand.place, rotated_left(carry, operand.byte))
-    }
-
-    // f right through C: C.
-    pub(crate) fn rrf(&mut self, f: u8, d: Dest) -> Effect
-        requires { f < 128 }
-        ensures { exec (Instr.Rrf f d) (cpu_of self.old) ≡ done_of (Some result) (cpu_of self.new) }
-    {
-        let operand = self.operand(f);
-        let carry = self.regs.carry();
-        self.give(d, operand.place, rotated_right(carry, operand.byte))
-    }
-
-    // f - W: C, DC, Z.
-    pub(crate) fn subwf(&mut self, f: u8, d: Dest) -> Effect
-        requires { f < 128 }
-        ensures { exec (Instr.Subwf f d) (cpu_of self.old) ≡ done_of (Some result) (cpu_of self.new) }
-    {
-        let operand = self.operand(f);
-        self.give(d, operand.place, difference(operand.byte, self.w))
-    }
-
-    // Halves of f exchanged.
-    pub(crate) fn swapf(&mut self, f: u8, d: Dest) -> Effect
-        requires { f < 128 }
-        ensures { exec (Instr.Swapf f d) (cpu_of self.old) ≡ done_of (Some result) (cpu_of self.new) }
-    {
-        let operand = self.operand(f);
-        self.give(d, operand.place, just(swap_halves(operand.byte)))
-    }
-
-    // W xor f: Z.
-    pub(crate) fn xorwf(&mut self, f: u8, d: Dest) -> Effect
-        requires { f < 128 }
-        ensures { exec (Instr.Xorwf f d) (cpu_of self.old) ≡ done_of (Some result) (cpu_of self.new) }
-    {
-        let operand = self.operand(f);
-        self.give(d, operand.place, tested(differing(self.w, operand.byte)))
+        let Operand { place, byte } = self.operand(f);
+        match *i {
+            Instr::Addwf { d, .. } => self.give(d, place, sum(self.w, byte)),
+            Instr::Andwf { d, .. } => self.give(d, place, tested(both(self.w, byte))),
+            Instr::Clrf { .. } => self.give_register(place, tested(0x00)),
+            Instr::Comf { d, .. } => self.give(d, place, tested(complement(byte))),
+            Instr::Decf { d, .. } => self.give(d, place, tested(decrement(byte))),
+            Instr::Decfsz { d, .. } => self.count(d, place, decrement(byte)),
+            Instr::Incf { d, .. } => self.give(d, place, tested(increment(byte))),
+            Instr::Incfsz { d, .. } => self.count(d, place, increment(byte)),
+            Instr::Iorwf { d, .. } => self.give(d, place, tested(either(self.w, byte))),
+            Instr::Movf { d, .. } => self.give(d, place, tested(byte)),
+            Instr::Rlf { d, .. } => {
+                let carry = self.regs.carry();
+                self.give(d, place, rotated_left(carry, byte))
+            }
+            Instr::Rrf { d, .. } => {
+                let carry = self.regs.carry();
+                self.give(d, place, rotated_right(carry, byte))
+            }
+            Instr::Subwf { d, .. } => self.give(d, place, difference(byte, self.w)),
+            Instr::Swapf { d, .. } => self.give(d, place, just(swap_halves(byte))),
+            Instr::Xorwf { d, .. } => self.give(d, place, tested(differing(self.w, byte))),
+            Instr::Bcf { b, .. } => self.give_register(place, just(set_bit(byte, b, false))),
+            Instr::Bsf { b, .. } => self.give_register(place, just(set_bit(byte, b, true))),
+            Instr::Btfsc { b, .. } => self.skip(!bit_is_set(byte, b)),
+            Instr::Btfss { b, .. } => self.skip(bit_is_set(byte, b)),
+            // MOVWF is left.
+            _ => self.give_register(place, just(self.w)),
+        }
     }
 }
