@@ -7,7 +7,6 @@
 #![tactic(auto)]
 
 mod chip;
-mod constant_arms;
 mod control_arms;
 mod cpu;
 mod destination;
