@@ -1,0 +1,5 @@
+pub mod BetweenLaws
+pub mod ComesLaws
+pub mod Examples
+pub mod JumpLaws
+pub mod OwnLaws

@@ -1,0 +1,5 @@
+pub mod Between
+pub mod Ends
+pub mod Jumps
+pub mod Laws
+pub mod Steps
