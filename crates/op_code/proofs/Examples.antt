@@ -1,0 +1,2 @@
+-- Lines of items, and where they stand, computed.
+mod Lines

@@ -1,0 +1,5 @@
+pub mod Examples
+pub mod ItemLaws
+pub mod LineLaws
+pub mod PieceLaws
+pub mod StandLaws

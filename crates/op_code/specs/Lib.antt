@@ -1,0 +1,4 @@
+pub mod Items
+pub mod Laws
+pub mod Lines
+pub mod Places

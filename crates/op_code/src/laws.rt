@@ -1,0 +1,30 @@
+// Laws of items that stand in program memory. Each is the contract of a function that does nothing.
+
+ghost use Rattle.std.specs.Prelude.{ℕ, Bool, List as Items};
+ghost use Rattle.op_code.specs.declared.items.Item.{Item as AnyItem};
+ghost use Rattle.op_code.specs.Laws.{MarkLiesWithin, PieceStands, PiecesApart, StandsInParts, StandsRaised};
+
+/// Items in two parts stand one after the other, where the first part ends in no skip instruction.
+pub fn stands_in_parts()
+    ensures { (paged : Bool) (program marks : ℕ → ℕ) (p q : ℕ) (xs ys : Items AnyItem) → StandsInParts paged program marks p q xs ys }
+{}
+
+/// Where raised items stand, the items stand with each mark where the raised one is.
+pub fn stands_raised()
+    ensures { (paged : Bool) (program marks : ℕ → ℕ) (up p q : ℕ) (items : Items AnyItem) → StandsRaised paged program marks up p q items }
+{}
+
+/// A mark before a word has an address among those of the items' words.
+pub fn mark_lies_within()
+    ensures { (paged : Bool) (program marks : ℕ → ℕ) (p q m : ℕ) (xs ys : Items AnyItem) → MarkLiesWithin paged program marks p q m xs ys }
+{}
+
+/// Each of some pieces that stand one after another stands where those before it end.
+pub fn each_piece_stands()
+    ensures { (paged : Bool) (program marks : ℕ → ℕ) (pieces : Items (Items AnyItem)) (q k : ℕ) → PieceStands paged program marks pieces q k }
+{}
+
+/// No address lies in two pieces.
+pub fn pieces_are_apart()
+    ensures { (paged : Bool) (pieces : Items (Items AnyItem)) (j k address : ℕ) → PiecesApart paged pieces j k address }
+{}

@@ -1,0 +1,13 @@
+//! Code as items, before it has addresses: instructions, marks, and jumps to marks.
+//!
+//! `specs/` says how items become lines, and what it means that a program memory has them from a place on (`Stands`), without
+//! an address in any item. Proofs about emitted code are about every place where its items stand.
+#![tactic(auto)]
+
+mod items;
+mod laws;
+
+pub use items::{Code, Item};
+pub use laws::{
+    each_piece_stands, mark_lies_within, pieces_are_apart, stands_in_parts, stands_raised,
+};
