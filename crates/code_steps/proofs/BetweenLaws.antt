@@ -1,9 +1,7 @@
 -- What may come between is one of its kind in two parts too, elsewhere too, and arrivals are the least of it.
-use Rattle.std.proofs.Common.{◌≡◌, ℕ, zero, suc, ◌+◌, ◌*◌, ◌/◌, ◌%◌, ◌<◌, Bool, true, false, ◌||◌, ◌==◌, ap, ap₂, ◌∙◌, sym, refl, subst, arith}
+use Rattle.std.proofs.Common.{◌≡◌, ℕ, zero, suc, ◌+◌, ◌*◌, ◌/◌, ◌%◌, ◌<◌, ◌||◌, ◌==◌, ap, ap₂, ◌∙◌, refl, arith}
 use Rattle.std.proofs.Math.Bool.{or-true}
-use Rattle.pic_isa.specs.declared.sources.Source.{Source}
 use Rattle.pic_regs.specs.Bytes.{Byte, one_if}
-use Rattle.pic_regs.specs.Registers.{flag}
 use Rattle.pic_regs.proofs.ArrivalLaws.{flag-arrived}
 use Rattle.pic_machine.specs.Chip.{Chip, bank}
 use Rattle.pic_machine.specs.Boundary.{Outer}

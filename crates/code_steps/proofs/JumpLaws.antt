@@ -1,20 +1,19 @@
 -- Jumps to any page, and a skip before a jump, over any changes between that keep the program counter and PCLATH.
-use Rattle.std.proofs.Common.{◌≡◌, ℕ, zero, suc, ◌+◌, ◌*◌, ◌/◌, ◌%◌, ◌<◌, ◌≤◌, ◌⊎◌, Bool, true, false, not, ◌==◌, Option, Some, None, ap, ap₂, ◌∙◌, sym, refl, subst, arith, inl, inr}
+use Rattle.std.proofs.Common.{◌≡◌, ℕ, zero, suc, ◌+◌, ◌*◌, ◌/◌, ◌%◌, ◌<◌, ◌≤◌, ◌⊎◌, Bool, true, false, not, ◌==◌, Some, None, ap, ap₂, ◌∙◌, sym, refl, subst, arith, inl, inr}
 use Rattle.pic_isa.specs.declared.instructions.Instr.{Instr}
 use Rattle.pic_isa.specs.declared.instructions.Instr.TheVariants.{Btfsc, Btfss, Goto}
 use Rattle.pic_regs.specs.Bytes.{Byte, one_if, bit}
 use Rattle.std.specs.Prelude.{nat_le}
 use Rattle.std.proofs.lemmas.Bool.{ne_eqb, le-leb}
-use Rattle.pic_regs.specs.Map.{Reg, Intcon, Pir1, Pir2, Plain, reg_in}
-use Rattle.pic_regs.specs.Registers.{read}
+use Rattle.pic_regs.specs.Map.{Intcon, Pir1, Pir2, Plain, reg_in}
 use Rattle.pic_machine.specs.Chip.{Chip, bank, advanced, skipping, through, got}
 use Rattle.pic_machine.specs.Results.{Done, leaves}
 use Rattle.pic_machine.specs.Exec.{exec}
 use Rattle.code_steps.specs.declared.banks.Bank.TheVariants.{Known}
-use Rattle.code_steps.specs.Steps.{next, Is, own, Comes}
+use Rattle.code_steps.specs.Steps.{next, Is, Comes}
 use Rattle.code_steps.specs.Between.{placed_at, IsFrame}
 use Rattle.code_steps.specs.Ends.{Holds}
-use Rattle.code_steps.specs.Jumps.{high_page, low_page, setting, with_page, arrives, Reaches, IsTest, Tested}
+use Rattle.code_steps.specs.Jumps.{high_page, low_page, setting, with_page, arrives, Reaches, IsTest, Tested, clear_in, set_in}
 use Rattle.code_steps.proofs.ComesLaws.{own_is, comes_wider}
 use Rattle.code_steps.proofs.BetweenLaws.{holds_bank}
 
@@ -146,13 +145,6 @@ module _ (program : ℕ → ℕ) (R : Chip → Chip → Type 0) (frame : IsFrame
                 1 (placed_at (next d.pc) d.regs.pclath d)
                 (goes passes (next p) t (placed_at (next d.pc) d.regs.pclath d) goto below second (ap next here) its_page),
           )
-
--- What BTFSC and BTFSS test, where the register that they name is known.
-abbrev pub clear_in : Reg → ℕ → Chip → Bool
-clear_in reg b c = not (bit b (read reg c.regs))
-
-abbrev pub set_in : Reg → ℕ → Chip → Bool
-set_in reg b c = bit b (read reg c.regs)
 
 -- INTCON's bits, in any bank.
 pub tests_clear_intcon : (b : ℕ) (c : Chip) → IsTest (Btfsc 0x0B b) (clear_in Intcon b) c

@@ -1,18 +1,17 @@
 -- Own steps: at more places, with more that may be written, what they leave, and own steps as boundaries of the chip.
-use Rattle.std.proofs.Common.{◌≡◌, ℕ, zero, suc, ◌+◌, ◌<◌, ◌≤◌, ◌⊎◌, Bool, true, false, Option, Some, None, IfSome, ap, ◌∙◌, sym, refl, subst, arith, inl, inr}
+use Rattle.std.proofs.Common.{◌≡◌, ℕ, zero, suc, ◌+◌, ◌<◌, ◌≤◌, ◌⊎◌, true, false, Option, Some, None, IfSome, ap, ◌∙◌, sym, refl, subst, arith, inl, inr}
 use Rattle.pic_isa.specs.declared.instructions.Instr.{Instr}
 use Rattle.pic_isa.specs.Instructions.{instruction_of}
 use Rattle.pic_regs.specs.Registers.{requested}
 use Rattle.pic_machine.specs.declared.steps.Did.TheVariants.{Ran}
 use Rattle.pic_machine.specs.Chip.{Chip}
 use Rattle.pic_machine.specs.Results.{Done}
-use Rattle.pic_machine.specs.Exec.{exec}
 use Rattle.pic_machine.specs.Boundary.{Outer, Turn, Step, ran, ended, waited, delayed, boundary}
 use Rattle.pic_machine.specs.Run.{after}
 use Rattle.pic_machine.proofs.TurnLaws.{with_outer, step_of, runs-word, delays-word}
 use Rattle.code_steps.specs.Steps.{own_of, own, Comes}
 use Rattle.code_steps.specs.Between.{Alone}
-use Rattle.code_steps.specs.Ends.{Own}
+use Rattle.code_steps.specs.Ends.{Own, Between}
 use Rattle.code_steps.proofs.JumpLaws.{Passes, PassesSettings}
 use Rattle.code_steps.proofs.ComesLaws.{comes_keeping}
 use Rattle.code_steps.proofs.BetweenLaws.{arrival_alone}
@@ -43,9 +42,6 @@ own_wider may also start stop from to more low high d done step =
     }
 
 -- Jumps, skips and page settings are such steps.
-abbrev pub Between : ℕ → ℕ → ℕ → Type 0
-Between start stop place = (start ≤ place) × (place < stop)
-
 pub own_passes : (may : ℕ → Type 0) (start stop : ℕ) → Passes (Between start stop) (Own may start stop)
 own_passes may start stop d place inside = record {
   from = inside.0;

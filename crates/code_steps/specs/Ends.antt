@@ -1,9 +1,13 @@
 -- What code does to the chip by its own steps, what is known of the bank, and where it ends.
-use Rattle.std.specs.Prelude.{◌≡◌, ℕ, ◌<◌, ◌≤◌, ◌/◌, ◌%◌, ◌==◌, ◌⊎◌, None, Some, IfSome}
+use Rattle.std.specs.Prelude.{◌≡◌, ℕ, ◌<◌, ◌≤◌, ◌/◌, ◌%◌, ◌==◌, ◌⊎◌, None, IfSome}
 use Rattle.code_steps.specs.declared.banks.Bank.{Bank}
 use Rattle.code_steps.specs.declared.banks.Bank.TheVariants.{Known, Unknown}
 use Rattle.pic_machine.specs.Chip.{Chip}
 use Rattle.pic_machine.specs.Results.{Done}
+
+-- An address lies from `start` on and before `stop`.
+abbrev pub Between : ℕ → ℕ → ℕ → Type 0
+Between start stop place = (start ≤ place) × (place < stop)
 
 -- The chip with the program counter, W, PCLATH and plain bytes of another, and of STATUS its bits 6, 5, 2, 1 and 0: RP1, RP0,
 -- Z, DC and C.

@@ -1,8 +1,10 @@
 -- Jumps to any page of program memory, and what skip instructions test.
-use Rattle.std.specs.Prelude.{◌≡◌, ℕ, ◌+◌, ◌/◌, ◌%◌, ◌==◌, Bool, true, false, ◌⊎◌, None, Some}
+use Rattle.std.specs.Prelude.{◌≡◌, ℕ, ◌/◌, ◌%◌, ◌==◌, not, Bool, true, false, ◌⊎◌}
 use Rattle.pic_isa.specs.declared.instructions.Instr.{Instr}
 use Rattle.pic_isa.specs.declared.instructions.Instr.TheVariants.{Bcf, Bsf}
-use Rattle.pic_regs.specs.Bytes.{Byte}
+use Rattle.pic_regs.specs.Bytes.{Byte, bit}
+use Rattle.pic_regs.specs.Map.{Reg}
+use Rattle.pic_regs.specs.Registers.{read}
 use Rattle.pic_machine.specs.Chip.{Chip, advanced, skipping}
 use Rattle.pic_machine.specs.Results.{leaves}
 use Rattle.pic_machine.specs.Exec.{exec}
@@ -37,6 +39,13 @@ Reaches false address c = (c.regs.pclath.b4 ≡ high_page address) × (c.regs.pc
 -- An instruction skips the next one exactly where a test of the chip holds, and does nothing else.
 abbrev pub IsTest : Instr → (Chip → Bool) → Chip → Type 0
 IsTest i test c = exec i c ≡ leaves (skipping (test c) (advanced c))
+
+-- A bit of a register is clear, and is set: what BTFSC and BTFSS test.
+abbrev pub clear_in : Reg → ℕ → Chip → Bool
+clear_in reg b c = not (bit b (read reg c.regs))
+
+abbrev pub set_in : Reg → ℕ → Chip → Bool
+set_in reg b c = bit b (read reg c.regs)
 
 -- What a skip instruction at a place and a jump to `target` behind it come to, from the chip `c` there: on the chip `d` on
 -- which the test was made it held, and the jump was skipped; or it didn't hold, and the jump was made.

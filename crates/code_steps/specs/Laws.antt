@@ -1,6 +1,9 @@
 -- What the laws of `laws.rt` promise of every program.
 use Rattle.std.specs.Prelude.{◌≡◌, ℕ, ◌<◌, ◌≤◌, Bool, true, false, Some}
 use Rattle.code_steps.specs.declared.banks.Bank.{Bank}
+use Rattle.code_steps.specs.declared.banks.Bank.TheVariants.{Known}
+use Rattle.pic_isa.specs.declared.instructions.Instr.TheVariants.{Btfsc, Btfss}
+use Rattle.pic_regs.specs.Map.{Reg, Intcon, Pir1, Pir2, Plain}
 use Rattle.pic_regs.specs.Registers.{requested}
 use Rattle.pic_machine.specs.Chip.{Chip}
 use Rattle.pic_machine.specs.Results.{Done}
@@ -8,7 +11,8 @@ use Rattle.pic_machine.specs.Boundary.{Outer, Step, boundary}
 use Rattle.pic_machine.specs.Run.{Log, log, after}
 use Rattle.code_steps.specs.Steps.{own, Comes}
 use Rattle.code_steps.specs.Between.{Others, Keeps, Alone}
-use Rattle.code_steps.specs.Ends.{Own, Ended}
+use Rattle.code_steps.specs.Ends.{Own, Holds, Ended}
+use Rattle.code_steps.specs.Jumps.{IsTest, clear_in, set_in}
 
 -- A piece of code from one address to another, whose steps write what a test picks.
 pub record Piece : Type 0 where
@@ -53,3 +57,14 @@ RunsAlone program piece place bank k c outer =
     let steps : Log = log program c outer in
     Comes program Alone (OwnOf piece) (Ended place bank) k c → ((n : ℕ) → n < k → IsQuiet (steps n))
     → (n : ℕ) × (n ≤ k) × Ended place bank (after program c outer n)
+
+-- BTFSC and BTFSS with these seven bits of an address test the bits of a register.
+abbrev pub TestsBits : ℕ → Reg → Chip → Type 0
+TestsBits f reg c = (b : ℕ) → IsTest (Btfsc f b) (clear_in reg b) c × IsTest (Btfss f b) (set_in reg b) c
+
+-- Those of INTCON and of the bytes from 70h on do in any bank, those of PIR1 and PIR2 in bank 0.
+pub record TestsFlags (c : Chip) : Type 0 where
+  pub intcon : TestsBits 0x0B Intcon c
+  pub common : (f : ℕ) → 0x70 ≤ f → f < 0x80 → TestsBits f (Plain f) c
+  pub pir1 : Holds (Known 0) c → TestsBits 0x0C Pir1 c
+  pub pir2 : Holds (Known 0) c → TestsBits 0x0D Pir2 c

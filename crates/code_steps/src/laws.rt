@@ -1,7 +1,7 @@
 // Laws of code that takes its steps by itself. Each is the contract of a function that does nothing.
 
 ghost use Rattle.std.specs.Prelude.{ℕ};
-ghost use Rattle.code_steps.specs.Laws.{GoesOn, IsOwnStep, IsOwnStepLate, LeavesByte, Piece, RunsAlone};
+ghost use Rattle.code_steps.specs.Laws.{GoesOn, IsOwnStep, IsOwnStepLate, LeavesByte, Piece, RunsAlone, TestsFlags};
 ghost use Rattle.code_steps.specs.declared.banks.Bank.{Bank as AnyBank};
 ghost use Rattle.pic_machine.specs.Boundary.{Outer};
 ghost use Rattle.pic_machine.specs.Chip.{Chip};
@@ -30,4 +30,9 @@ pub fn late_step_is_an_own_step()
 /// Where nothing is due or requested, a run comes to the end of the code within as many steps as the code takes.
 pub fn runs_alone()
     ensures { (program : ℕ → ℕ) (piece : Piece) (place : ℕ) (bank : AnyBank) (k : ℕ) (c : Chip) (outer : ℕ → Outer) → RunsAlone program piece place bank k c outer }
+{}
+
+/// BTFSC and BTFSS test the bits of INTCON and of the bytes from 70h to 7Fh in any bank, those of PIR1 and PIR2 in bank 0.
+pub fn tests_flags()
+    ensures { (c : Chip) → TestsFlags c }
 {}

@@ -11,5 +11,5 @@ mod laws;
 pub use banks::Bank;
 pub use laws::{
     goes_on_after_others, late_step_is_an_own_step, leaves_other_bytes, own_step_is_a_boundary,
-    runs_alone,
+    runs_alone, tests_flags,
 };

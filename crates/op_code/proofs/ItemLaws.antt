@@ -1,10 +1,10 @@
 -- Items: their words, skips and marks in parts and raised.
-use Rattle.std.proofs.Common.{◌≡◌, ℕ, zero, suc, ◌+◌, ◌*◌, ◌≤◌, ◌<◌, ◌⊎◌, Bool, true, false, if◌then◌else◌, List, [], ◌∷◌, ◌++◌, map, get_or, ◌==◌, ◌-◌, ap, ◌∙◌, sym, refl, subst, arith, inl, inr}
+use Rattle.std.proofs.Common.{◌≡◌, ℕ, zero, suc, ◌+◌, ◌*◌, ◌≤◌, ◌<◌, Bool, true, false, if◌then◌else◌, List, [], ◌∷◌, ◌++◌, map, get_or, ◌==◌, ◌-◌, ap, ◌∙◌, sym, refl, subst, arith, inl, inr}
 use Rattle.std.proofs.lemmas.Bool.{eqb-true, eqb-false, eq-eqb, ne_eqb, cases_lt}
 use Rattle.pic_isa.specs.declared.instructions.Instr.{Instr}
 use Rattle.op_code.specs.declared.items.Item.{Item}
 use Rattle.op_code.specs.declared.items.Item.TheVariants.{Ins, Mark, Jump}
-use Rattle.op_code.specs.Items.{is_skip, skips, ends_skipping, raised, marks_it, times, OnceEach, OnlyMarks, words_of_item, words_in, has_pages}
+use Rattle.op_code.specs.Items.{skips, ends_skipping, raised, marks_it, times, OnceEach, OnlyMarks, words_of_item, words_in}
 
 -- The item at a place among raised ones.
 pub get_or-raised : (up : ℕ) (items : List Item) (i : ℕ) (other : Instr) → get_or (map (raised up) items) i (Ins other) ≡ raised up (get_or items i (Ins other))

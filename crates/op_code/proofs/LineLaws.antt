@@ -1,14 +1,14 @@
 -- Lines and the places where they stand: parts, raised marks, and intervals of addresses.
-use Rattle.std.proofs.Common.{◌≡◌, ℕ, zero, suc, ◌+◌, ◌*◌, ◌/◌, ◌%◌, ◌≤◌, ◌<◌, ◌⊎◌, Bool, true, false, if◌then◌else◌, List, [], ◌∷◌, ◌++◌, map, ap, ap₂, ◌∙◌, sym, refl, subst, append_assoc, arith, inl, inr}
+use Rattle.std.proofs.Common.{◌≡◌, ℕ, zero, suc, ◌+◌, ◌%◌, ◌≤◌, ◌<◌, ◌⊎◌, Bool, true, false, if◌then◌else◌, List, [], ◌∷◌, ◌++◌, map, ap, ap₂, ◌∙◌, sym, refl, subst, append_assoc, arith, inl, inr}
 use Rattle.std.proofs.lemmas.List.{map-append}
 use Rattle.pic_isa.specs.declared.instructions.Instr.{Instr}
-use Rattle.code_steps.specs.Steps.{next, Is}
+use Rattle.code_steps.specs.Steps.{next}
+use Rattle.code_steps.specs.Ends.{Between}
 use Rattle.op_code.specs.declared.items.Item.{Item}
 use Rattle.op_code.specs.declared.items.Item.TheVariants.{Ins, Mark, Jump}
 use Rattle.op_code.specs.Items.{is_skip, skips, ends_skipping, raised, words_of_item, words_in}
-use Rattle.op_code.specs.Lines.{Line, Here, Does, PageLow, PageHigh, Goes, settings, ahead, lines_of, lines, Placed, Stands, Within}
-use Rattle.op_code.specs.Places.{Between}
-use Rattle.op_code.proofs.ItemLaws.{words-append, skips-raised}
+use Rattle.op_code.specs.Lines.{Line, Here, Does, PageLow, PageHigh, Goes, settings, ahead, lines_of, lines, Placed, Within}
+use Rattle.op_code.proofs.ItemLaws.{skips-raised}
 
 -- The words of lines, and the place behind them.
 abbrev pub line_words : List Line → ℕ

@@ -1,11 +1,11 @@
 -- Pieces of code one after another: where each stands, and that no address lies in two of them.
-use Rattle.std.proofs.Common.{◌≡◌, ℕ, zero, suc, ◌+◌, ◌%◌, ◌≤◌, ◌<◌, ◌⊎◌, Bool, true, false, List, [], ◌∷◌, ◌++◌, length, ap, ◌∙◌, sym, refl, subst, arith, inl, inr}
+use Rattle.std.proofs.Common.{◌≡◌, ℕ, zero, suc, ◌+◌, ◌%◌, ◌≤◌, ◌<◌, Bool, List, [], ◌∷◌, length, refl, subst, arith, inl, inr}
 use Rattle.std.proofs.lemmas.Bool.{cases_lt}
+use Rattle.code_steps.specs.Ends.{Between}
 use Rattle.op_code.specs.declared.items.Item.{Item}
-use Rattle.op_code.specs.declared.items.Item.TheVariants.{Ins, Mark, Jump}
-use Rattle.op_code.specs.Items.{ends_skipping, words_in}
+use Rattle.op_code.specs.Items.{words_in}
 use Rattle.op_code.specs.Lines.{Stands}
-use Rattle.op_code.specs.Places.{Between, joined, piece_at, base, NoneSkips}
+use Rattle.op_code.specs.Places.{joined, piece_at, base, NoneSkips}
 use Rattle.op_code.proofs.ItemLaws.{words-append}
 use Rattle.op_code.proofs.StandLaws.{behind, stands-parts}
 

@@ -1,14 +1,14 @@
 -- Items that stand in program memory: in parts, at a mark, at an instruction, raised, and between two addresses.
-use Rattle.std.proofs.Common.{◌≡◌, ℕ, zero, suc, ◌+◌, ◌%◌, ◌≤◌, ◌<◌, ◌⊎◌, Bool, true, false, if◌then◌else◌, List, [], ◌∷◌, ◌++◌, map, ap, ◌∙◌, sym, refl, subst, append_assoc, arith, inl, inr}
+use Rattle.std.proofs.Common.{◌≡◌, ℕ, ◌+◌, ◌%◌, ◌≤◌, ◌<◌, Bool, true, false, if◌then◌else◌, List, [], ◌∷◌, ◌++◌, map, ap, ◌∙◌, sym, subst, append_assoc, arith, inr}
 use Rattle.pic_isa.specs.declared.instructions.Instr.{Instr}
-use Rattle.code_steps.specs.Steps.{next, Is}
+use Rattle.code_steps.specs.Steps.{Is}
+use Rattle.code_steps.specs.Ends.{Between}
 use Rattle.op_code.specs.declared.items.Item.{Item}
-use Rattle.op_code.specs.declared.items.Item.TheVariants.{Ins, Mark, Jump}
+use Rattle.op_code.specs.declared.items.Item.TheVariants.{Ins, Mark}
 use Rattle.op_code.specs.Items.{is_skip, ends_skipping, raised, words_in}
-use Rattle.op_code.specs.Lines.{Line, Does, ahead, lines, Placed, Stands, Within}
-use Rattle.op_code.specs.Places.{Between}
+use Rattle.op_code.specs.Lines.{Does, ahead, lines, Placed, Stands, Within}
 use Rattle.op_code.proofs.ItemLaws.{words-append}
-use Rattle.op_code.proofs.LineLaws.{line_words, ending, ending-linear, placed-parts, placed-joined, placed-ends, words-lines, lines-append, lines-raised, placed-raised, within-lines}
+use Rattle.op_code.proofs.LineLaws.{ending, ending-linear, placed-parts, placed-joined, placed-ends, words-lines, lines-append, lines-raised, placed-raised, within-lines}
 
 -- The place behind items that stand from `p` on.
 abbrev pub behind : (paged : Bool) → ℕ → List Item → ℕ

@@ -1,5 +1,5 @@
 -- Items of code: their words, their marks, and where they end in a skip instruction.
-use Rattle.std.specs.Prelude.{◌≡◌, ℕ, ◌+◌, ◌<◌, ◌^◌, Bool, true, false, nat_lt, ◌==◌, if◌then◌else◌, List, [], ◌∷◌}
+use Rattle.std.specs.Prelude.{ℕ, ◌+◌, ◌<◌, ◌^◌, Bool, true, false, nat_lt, ◌==◌, if◌then◌else◌, List, [], ◌∷◌}
 use Rattle.pic_isa.specs.declared.instructions.Instr.{Instr}
 use Rattle.pic_isa.specs.declared.instructions.Instr.TheVariants.{Btfsc, Btfss, Decfsz, Incfsz}
 use Rattle.pic_isa.specs.Instructions.{FieldsFit}

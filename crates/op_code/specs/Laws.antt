@@ -1,10 +1,18 @@
 -- What the laws of `laws.rt` promise of items that stand in program memory.
-use Rattle.std.specs.Prelude.{◌≡◌, ℕ, suc, ◌+◌, ◌%◌, ◌≤◌, ◌<◌, Bool, false, List, ◌∷◌, ◌++◌, length, map}
+use Rattle.std.specs.Prelude.{◌≡◌, ℕ, suc, ◌+◌, ◌%◌, ◌≤◌, ◌<◌, Bool, true, false, List, ◌∷◌, ◌++◌, length, map}
+use Rattle.pic_isa.specs.declared.instructions.Instr.{Instr}
+use Rattle.pic_machine.specs.Chip.{Chip}
+use Rattle.code_steps.specs.Steps.{Comes}
+use Rattle.code_steps.specs.Between.{Others}
+use Rattle.code_steps.specs.Ends.{Between}
+use Rattle.code_steps.specs.Jumps.{arrives, Reaches, IsTest, Tested}
+use Rattle.code_steps.specs.Laws.{Piece, OwnOf}
 use Rattle.op_code.specs.declared.items.Item.{Item}
-use Rattle.op_code.specs.declared.items.Item.TheVariants.{Mark}
-use Rattle.op_code.specs.Items.{ends_skipping, raised, words_in}
+use Rattle.op_code.specs.declared.items.Item.TheVariants.{Ins, Mark, Jump}
+use Rattle.op_code.specs.Items.{is_skip, ends_skipping, raised, words_of_item, words_in}
+use Rattle.op_code.specs.Jumping.{at_skip}
 use Rattle.op_code.specs.Lines.{Stands}
-use Rattle.op_code.specs.Places.{Between, joined, piece_at, base, NoneSkips}
+use Rattle.op_code.specs.Places.{joined, piece_at, base, NoneSkips}
 
 -- Two parts, the first of which ends in no skip instruction, stand one after the other.
 abbrev pub StandsInParts : Bool → (program marks : ℕ → ℕ) → (p q : ℕ) → (xs ys : List Item) → Type 0
@@ -35,3 +43,22 @@ PieceStands paged program marks pieces q k =
 abbrev pub PiecesApart : Bool → List (List Item) → (j k address : ℕ) → Type 0
 PiecesApart paged pieces j k address =
     (j ≡ k → ⊥) → Between (base paged pieces j) (base paged pieces (suc j)) address → Between (base paged pieces k) (base paged pieces (suc k)) address → ⊥
+
+-- A piece of code has these words, and may write PCLATH where the code has page settings.
+abbrev pub HasWords : Bool → Piece → (p words : ℕ) → Type 0
+HasWords paged piece p words = (piece.start ≤ p) × (p + words ≤ piece.stop) × (piece.stop ≤ 8192) × (paged ≡ true → piece.may 0x00A ≡ true)
+
+-- A jump that others' runs may interrupt arrives at its mark.
+abbrev pub JumpArrives : Bool → (program marks : ℕ → ℕ) → Piece → (p q m : ℕ) → List Item → Chip → Type 0
+JumpArrives paged program marks piece p q m items c =
+    let words = words_of_item paged (Jump m) in
+    Stands paged program marks p (Jump m ∷ items) q → HasWords paged piece p words → c.pc ≡ p → Reaches paged (marks m) c
+    → Comes program Others (OwnOf piece) (Others (arrives (marks m) c)) words c
+
+-- A skip instruction with a jump behind it skips the jump or jumps, as its test says.
+abbrev pub SkipDecides : Bool → (program marks : ℕ → ℕ) → Piece → (p q m : ℕ) → Instr → (Chip → Bool) → List Item → Chip → Type 0
+SkipDecides paged program marks piece p q m i test items c =
+    let words = 1 + words_of_item paged (Jump m) in
+    let tested : Chip = at_skip paged (marks m) c in
+    Stands paged program marks p (Ins i ∷ Jump m ∷ items) q → is_skip i ≡ true → HasWords paged piece p words → c.pc ≡ p → Reaches paged (marks m) c
+    → ((d : Chip) → Others tested d → IsTest i test d) → Comes program Others (OwnOf piece) (Tested Others test (marks m) tested) words c

@@ -1,4 +1,5 @@
 pub mod Items
+pub mod Jumping
 pub mod Laws
 pub mod Lines
 pub mod Places

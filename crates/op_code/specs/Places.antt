@@ -1,11 +1,7 @@
--- Pieces of code one after another, by linear addresses.
-use Rattle.std.specs.Prelude.{◌≡◌, ℕ, zero, suc, ◌+◌, ◌≤◌, ◌<◌, ◌%◌, Bool, false, List, [], ◌∷◌, ◌++◌}
+-- Pieces of code one after another: where each begins.
+use Rattle.std.specs.Prelude.{◌≡◌, ℕ, zero, suc, ◌+◌, Bool, false, List, [], ◌∷◌, ◌++◌}
 use Rattle.op_code.specs.declared.items.Item.{Item}
 use Rattle.op_code.specs.Items.{words_in, ends_skipping}
-
--- An address lies from `start` on and before `stop`.
-abbrev pub Between : ℕ → ℕ → ℕ → Type 0
-Between start stop place = (start ≤ place) × (place < stop)
 
 -- Pieces of code, put together.
 abbrev pub joined : List (List Item) → List Item

@@ -1,6 +1,7 @@
 // Items of code, and codes one after another.
 
-ghost use Rattle.std.specs.Prelude.{◌≡◌, ℕ, ◌+◌, ◌≤◌, ◌++◌, [], map, take, All, OnOk, OnErr};
+ghost use Rattle.std.specs.Prelude.{◌≡◌, ℕ, ◌+◌, ◌≤◌, ◌++◌, [], map, take, OnOk, OnErr};
+ghost use Rattle.std.specs.List.{AllByRecursion};
 ghost use Rattle.op_code.specs.Items.{RaisedFits, raised};
 
 use frp_tree::List;
@@ -46,7 +47,7 @@ impl Code {
     /// Adds the items of `more` at the end, each mark and jump raised by `up`. No raised number passes 2^32 - 1. An `Err` is
     /// out of memory; then some of them are added, the first ones.
     pub fn append(&mut self, more: &Code, up: u32) -> Result<(), AllocError>
-        requires { All (RaisedFits up) more.now.items }
+        requires { AllByRecursion (RaisedFits up) more.now.items }
         ensures ok { OnOk result (self.new.items ≡ self.old.items ++ map (raised up) more.now.items) }
         ensures err { OnErr result ((n : ℕ) × (self.new.items ≡ self.old.items ++ take n (map (raised up) more.now.items))) }
     {

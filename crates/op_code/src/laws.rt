@@ -2,7 +2,10 @@
 
 ghost use Rattle.std.specs.Prelude.{ℕ, Bool, List as Items};
 ghost use Rattle.op_code.specs.declared.items.Item.{Item as AnyItem};
-ghost use Rattle.op_code.specs.Laws.{MarkLiesWithin, PieceStands, PiecesApart, StandsInParts, StandsRaised};
+ghost use Rattle.pic_isa.specs.declared.instructions.Instr.{Instr as AnyInstr};
+ghost use Rattle.pic_machine.specs.Chip.{Chip};
+ghost use Rattle.code_steps.specs.Laws.{Piece};
+ghost use Rattle.op_code.specs.Laws.{JumpArrives, MarkLiesWithin, PieceStands, PiecesApart, SkipDecides, StandsInParts, StandsRaised};
 
 /// Items in two parts stand one after the other, where the first part ends in no skip instruction.
 pub fn stands_in_parts()
@@ -27,4 +30,16 @@ pub fn each_piece_stands()
 /// No address lies in two pieces.
 pub fn pieces_are_apart()
     ensures { (paged : Bool) (pieces : Items (Items AnyItem)) (j k address : ℕ) → PiecesApart paged pieces j k address }
+{}
+
+/// A jump arrives at its mark, on any page, however others' runs interrupt it.
+pub fn jump_arrives()
+    ensures { (paged : Bool) (program marks : ℕ → ℕ) (piece : Piece) (p q m : ℕ) (items : Items AnyItem) (c : Chip)
+        → JumpArrives paged program marks piece p q m items c }
+{}
+
+/// A skip instruction with a jump behind it skips the whole jump or jumps, as its test says.
+pub fn skip_decides()
+    ensures { (paged : Bool) (program marks : ℕ → ℕ) (piece : Piece) (p q m : ℕ) (i : AnyInstr) (test : Chip → Bool) (items : Items AnyItem) (c : Chip)
+        → SkipDecides paged program marks piece p q m i test items c }
 {}

@@ -9,5 +9,6 @@ mod laws;
 
 pub use items::{Code, Item};
 pub use laws::{
-    each_piece_stands, mark_lies_within, pieces_are_apart, stands_in_parts, stands_raised,
+    each_piece_stands, jump_arrives, mark_lies_within, pieces_are_apart, skip_decides,
+    stands_in_parts, stands_raised,
 };

@@ -1,15 +1,14 @@
 -- Own steps, jumps and banks, computed at examples.
-use Rattle.std.proofs.Common.{◌≡◌, ℕ, ◌==◌, if◌then◌else◌, true, false, None, Some, refl, ◌∙◌, inl, inr}
-use Rattle.pic_isa.specs.declared.instructions.Instr.TheVariants.{Bcf, Bsf, Goto, Movwf}
-use Rattle.pic_isa.specs.Instructions.{word_of}
+use Rattle.std.proofs.Common.{◌≡◌, ℕ, ◌==◌, if◌then◌else◌, None, Some, refl, ◌∙◌, inr}
+use Rattle.pic_isa.specs.declared.instructions.Instr.TheVariants.{Bcf, Bsf, Movwf}
 use Rattle.pic_regs.specs.Bytes.{bits, updated}
 use Rattle.pic_machine.specs.Chip.{Chip}
 use Rattle.pic_machine.specs.Results.{Done}
-use Rattle.code_steps.specs.declared.banks.Bank.TheVariants.{Known, Unknown}
+use Rattle.code_steps.specs.declared.banks.Bank.TheVariants.{Known}
 use Rattle.code_steps.specs.Steps.{next, Is, own, Comes}
 use Rattle.code_steps.specs.Between.{Others}
-use Rattle.code_steps.specs.Ends.{Holds, Own}
-use Rattle.code_steps.specs.Jumps.{high_page, low_page, setting, with_page, arrives}
+use Rattle.code_steps.specs.Ends.{Holds}
+use Rattle.code_steps.specs.Jumps.{high_page, low_page, setting, with_page}
 
 -- MOVWF 75h at 8191, and all else words that are no instruction.
 abbrev stores : ℕ → ℕ

@@ -1,10 +1,10 @@
 -- Lines of items and where they stand, computed at examples.
-use Rattle.std.proofs.Common.{◌≡◌, ℕ, ◌==◌, if◌then◌else◌, Bool, true, false, List, [], ◌∷◌, map, refl, arith}
-use Rattle.pic_isa.specs.declared.instructions.Instr.TheVariants.{Btfsc, Call, Goto, Nop, Return}
+use Rattle.std.proofs.Common.{◌≡◌, ℕ, ◌==◌, if◌then◌else◌, true, false, List, [], ◌∷◌, map, refl, arith}
+use Rattle.pic_isa.specs.declared.instructions.Instr.TheVariants.{Btfsc, Nop}
 use Rattle.op_code.specs.declared.items.Item.{Item}
 use Rattle.op_code.specs.declared.items.Item.TheVariants.{Ins, Mark, Jump}
 use Rattle.op_code.specs.Items.{ends_skipping, has_pages, raised, times, words_in}
-use Rattle.op_code.specs.Lines.{Line, Here, Does, PageLow, PageHigh, Goes, lines, Stands}
+use Rattle.op_code.specs.Lines.{Here, Does, PageLow, PageHigh, Goes, lines, Stands}
 use Rattle.op_code.specs.Places.{base, joined}
 
 -- A loop that waits for bit 2 of INTCON, and a jump.

@@ -1,8 +1,7 @@
-use Rattle.std.proofs.Common.{◌≡◌, ◌+◌, ◌++◌, ◌∷◌, [], ◌<◌, length, get_or, map, take, ap, refl, append_assoc, arith}
+use Rattle.std.proofs.Common.{◌<◌, length, map, ap, refl, append_assoc, arith}
 use Rattle.std.proofs.lemmas.List.{take_more, length-map}
 use Rattle.pic_isa.specs.declared.instructions.Dest.TheVariants.{W}
 use Rattle.pic_isa.specs.declared.instructions.Instr.TheVariants.{Addwf}
-use Rattle.op_code.specs.declared.items.Item.{Item}
 use Rattle.op_code.specs.declared.items.Item.TheVariants.{Ins}
 use Rattle.op_code.specs.Items.{raised}
 use Rattle.op_code.proofs.ItemLaws.{get_or-raised}

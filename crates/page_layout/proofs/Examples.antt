@@ -1,0 +1,2 @@
+-- Addresses and words of items, computed.
+mod Layouts

@@ -1,0 +1,5 @@
+pub mod DropFacts
+pub mod Examples
+pub mod MarkFacts
+pub mod PlaceFacts
+pub mod WholeFacts

@@ -1,0 +1,11 @@
+-- Why code has no words.
+use Rattle.std.specs.Prelude.{◌≡◌, ◌<◌, List}
+use Rattle.op_code.specs.declared.items.Item.{Item}
+use Rattle.op_code.specs.Items.{has_pages, words_in}
+use Rattle.page_layout.specs.declared.laid.CodeFault.{CodeFault}
+use Rattle.page_layout.specs.declared.laid.CodeFault.TheVariants.{Code, Memory}
+
+-- The fault is true of the items: they would have this many words, more than 8,192. Memory may always not suffice.
+abbrev pub IsFaultOf : List Item → CodeFault → Type 0
+IsFaultOf items (Code n) = (8192 < n) × (n ≡ words_in (has_pages items) items)
+IsFaultOf items Memory = Unit {0}

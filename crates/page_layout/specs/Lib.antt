@@ -1,0 +1,4 @@
+pub mod Emitted
+pub mod Faults
+pub mod Marks
+pub mod Words
