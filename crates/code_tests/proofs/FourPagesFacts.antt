@@ -7,7 +7,7 @@ use Rattle.pic_isa.specs.declared.instructions.Instr.TheVariants.{Btfsc, Btfss, 
 use Rattle.op_code.specs.declared.items.Item.{Item}
 use Rattle.op_code.specs.declared.items.Item.TheVariants.{Ins, Mark, Jump}
 use Rattle.op_code.specs.Items.{ItemFits, OnceEach, marks_it, times}
-use Rattle.op_code.proofs.ItemLaws.{times-append}
+use Rattle.op_code.proofs.ItemLaws.{fit-append, times-append}
 use Rattle.code_tests.specs.FourPages.{four_pages}
 
 abbrev nops : ℕ → List Item
@@ -23,10 +23,6 @@ nops-times (suc n) m = omega (arith, nops-times n m)
 
 pub nops-once : (n : ℕ) → OnceEach (nops n)
 nops-once n m = omega (arith, nops-times n m)
-
-fit-append : (xs ys : List Item) → AllByRecursion ItemFits xs → AllByRecursion ItemFits ys → AllByRecursion ItemFits (xs ++ ys)
-fit-append [] ys first second = second
-fit-append (x ∷ xs) ys first second = (first.0, fit-append xs ys first.1 second)
 
 -- Items, a gap, and two more items.
 abbrev onward : List Item → ℕ → ℕ → ℕ → List Item

@@ -1,10 +1,11 @@
 -- Items: their words, skips and marks in parts and raised.
-use Rattle.std.proofs.Common.{◌≡◌, ℕ, zero, suc, ◌+◌, ◌*◌, ◌≤◌, ◌<◌, Bool, true, false, if◌then◌else◌, List, [], ◌∷◌, ◌++◌, map, get_or, ◌==◌, ◌-◌, ap, ◌∙◌, sym, refl, subst, arith, inl, inr}
+use Rattle.std.proofs.Common.{◌≡◌, ℕ, zero, suc, ◌+◌, ◌*◌, ◌≤◌, ◌<◌, Bool, true, false, if◌then◌else◌, List, [], ◌∷◌, ◌++◌, map, get_or, ◌==◌, ◌-◌, ap, ◌∙◌, sym, refl, subst, arith, inl, inr, ◌^◌}
 use Rattle.std.proofs.lemmas.Bool.{eqb-true, eqb-false, eq-eqb, ne_eqb, cases_lt}
+use Rattle.std.specs.List.{AllByRecursion}
 use Rattle.pic_isa.specs.declared.instructions.Instr.{Instr}
 use Rattle.op_code.specs.declared.items.Item.{Item}
 use Rattle.op_code.specs.declared.items.Item.TheVariants.{Ins, Mark, Jump}
-use Rattle.op_code.specs.Items.{skips, ends_skipping, raised, marks_it, times, OnceEach, OnlyMarks, words_of_item, words_in}
+use Rattle.op_code.specs.Items.{ItemFits, RaisedFits, skips, ends_skipping, raised, marks_it, times, OnceEach, OnlyMarks, words_of_item, words_in}
 
 -- The item at a place among raised ones.
 pub get_or-raised : (up : ℕ) (items : List Item) (i : ℕ) (other : Instr) → get_or (map (raised up) items) i (Ins other) ≡ raised up (get_or items i (Ins other))
@@ -124,3 +125,30 @@ once-raised up items once m = elim (cases_lt m up) [
       let n : times m (map (raised up) items) ≡ times (m - up) items = ap (λ k. times k (map (raised up) items)) (sym same) ∙ times-raised up (m - up) items in
       omega (arith, n, once (m - up))
 ]
+
+-- Fields in range in parts and raised.
+pub fit-append : (xs ys : List Item) → AllByRecursion ItemFits xs → AllByRecursion ItemFits ys → AllByRecursion ItemFits (xs ++ ys)
+fit-append [] ys first second = second
+fit-append (x ∷ xs) ys first second = (first.0, fit-append xs ys first.1 second)
+
+item_fits-raised : (up : ℕ) (item : Item) → ItemFits item → ItemFits (raised up item)
+item_fits-raised up (Ins i) fit = fit
+item_fits-raised up (Mark m) fit = tt
+item_fits-raised up (Jump m) fit = tt
+
+pub fit-raised : (up : ℕ) (items : List Item) → AllByRecursion ItemFits items → AllByRecursion ItemFits (map (raised up) items)
+fit-raised up [] fit = tt
+fit-raised up (item ∷ items) fit = (item_fits-raised up item fit.0, fit-raised up items fit.1)
+
+-- Where the numbers of marks and jumps are below a bound, raised ones have 32 bits below another.
+abbrev pub JumpsBelow : ℕ → List Item → Type 0
+JumpsBelow bound [] = Unit {0}
+JumpsBelow bound (Ins i ∷ items) = JumpsBelow bound items
+JumpsBelow bound (Mark m ∷ items) = (m < bound) × JumpsBelow bound items
+JumpsBelow bound (Jump m ∷ items) = (m < bound) × JumpsBelow bound items
+
+pub raised-fits : (up bound : ℕ) → bound + up ≤ 2 ^ 32 → (items : List Item) → JumpsBelow bound items → AllByRecursion (RaisedFits up) items
+raised-fits up bound top [] below = tt
+raised-fits up bound top (Ins i ∷ items) below = (tt, raised-fits up bound top items below)
+raised-fits up bound top (Mark m ∷ items) below = (let small : m < bound = below.0 in omega arith, raised-fits up bound top items below.1)
+raised-fits up bound top (Jump m ∷ items) below = (let small : m < bound = below.0 in omega arith, raised-fits up bound top items below.1)

@@ -5,7 +5,11 @@ use Rattle.code_steps.specs.Steps.{Is}
 use Rattle.code_steps.specs.Ends.{Between}
 use Rattle.op_code.specs.declared.items.Item.{Item}
 use Rattle.op_code.specs.declared.items.Item.TheVariants.{Ins, Mark}
-use Rattle.op_code.specs.Items.{is_skip, ends_skipping, raised, words_in}
+use Rattle.std.proofs.lemmas.Bool.{ltb-false}
+use Rattle.pic_machine.specs.Chip.{Chip}
+use Rattle.code_steps.specs.Jumps.{Reaches}
+use Rattle.code_steps.proofs.JumpLaws.{reaches_first_page}
+use Rattle.op_code.specs.Items.{has_pages, is_skip, ends_skipping, raised, words_in}
 use Rattle.op_code.specs.Lines.{Does, ahead, lines, Placed, Stands, Within}
 use Rattle.op_code.proofs.ItemLaws.{words-append}
 use Rattle.op_code.proofs.LineLaws.{ending, ending-linear, placed-parts, placed-joined, placed-ends, words-lines, lines-append, lines-raised, placed-raised, within-lines}
@@ -85,3 +89,12 @@ mark-between paged program marks p q m xs ys below ends top word stands =
     let count = words-append paged xs (Mark m ∷ ys) in
     let at = stands-mark paged program marks p q m xs ys below ends stands in
     let linear : marks m ≡ p + words_in paged xs = omega (arith, count, at) in (linear, (omega (arith, linear), omega (arith, linear, count)))
+
+-- Code without page settings has at most 2,048 words, so a mark before a word is reached where bits 4 and 3 of PCLATH are 0.
+pub short-reaches : (program marks : ℕ → ℕ) (q m : ℕ) (xs ys : List Item) (c : Chip) → has_pages (xs ++ Mark m ∷ ys) ≡ false → ends_skipping false xs ≡ false
+    → 0 < words_in false ys → Stands false program marks 0 (xs ++ Mark m ∷ ys) q → c.regs.pclath.b4 ≡ false → c.regs.pclath.b3 ≡ false → Reaches false (marks m) c
+short-reaches program marks q m xs ys c short ends word stands high low =
+    let few : words_in false (xs ++ Mark m ∷ ys) ≤ 2048 = ltb-false 2048 (words_in false (xs ++ Mark m ∷ ys)) short in
+    let found = mark-between false program marks 0 q m xs ys (omega arith) ends (omega arith) word stands in
+    let below : marks m < 0 + words_in false (xs ++ Mark m ∷ ys) = found.1.1 in
+    reaches_first_page false (marks m) c (omega arith) high low

@@ -9,7 +9,7 @@ use Rattle.code_steps.specs.Jumps.{arrives, Reaches, IsTest, Tested}
 use Rattle.code_steps.specs.Laws.{Piece, OwnOf}
 use Rattle.op_code.specs.declared.items.Item.{Item}
 use Rattle.op_code.specs.declared.items.Item.TheVariants.{Ins, Mark, Jump}
-use Rattle.op_code.specs.Items.{is_skip, ends_skipping, raised, words_of_item, words_in}
+use Rattle.op_code.specs.Items.{OnceEach, OnlyMarks, has_pages, is_skip, ends_skipping, raised, words_of_item, words_in}
 use Rattle.op_code.specs.Jumping.{at_skip}
 use Rattle.op_code.specs.Lines.{Stands}
 use Rattle.op_code.specs.Places.{joined, piece_at, base, NoneSkips}
@@ -62,3 +62,15 @@ SkipDecides paged program marks piece p q m i test items c =
     let tested : Chip = at_skip paged (marks m) c in
     Stands paged program marks p (Ins i ∷ Jump m ∷ items) q → is_skip i ≡ true → HasWords paged piece p words → c.pc ≡ p → Reaches paged (marks m) c
     → ((d : Chip) → Others tested d → IsTest i test d) → Comes program Others (OwnOf piece) (Tested Others test (marks m) tested) words c
+
+-- In code without page settings, laid out from address 0 on, a mark before a word is reached where bits 4 and 3 of PCLATH are 0.
+abbrev pub ShortReaches : (program marks : ℕ → ℕ) → (q m : ℕ) → (xs ys : List Item) → Chip → Type 0
+ShortReaches program marks q m xs ys c =
+    has_pages (xs ++ Mark m ∷ ys) ≡ false → ends_skipping false xs ≡ false → 0 < words_in false ys → Stands false program marks 0 (xs ++ Mark m ∷ ys) q
+    → c.regs.pclath.b4 ≡ false → c.regs.pclath.b3 ≡ false → Reaches false (marks m) c
+
+-- Each mark stands at most once in two parts, where it does so in each and no mark can stand in both.
+abbrev pub OnceInBoth : (first second : ℕ → Bool) → (xs ys : List Item) → Type 0
+OnceInBoth first second xs ys =
+    ((m : ℕ) → first m ≡ true → second m ≡ true → ⊥) → OnlyMarks (λ m. first m ≡ true) xs → OnlyMarks (λ m. second m ≡ true) ys
+    → OnceEach xs → OnceEach ys → OnceEach (xs ++ ys)

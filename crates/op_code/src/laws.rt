@@ -5,7 +5,7 @@ ghost use Rattle.op_code.specs.declared.items.Item.{Item as AnyItem};
 ghost use Rattle.pic_isa.specs.declared.instructions.Instr.{Instr as AnyInstr};
 ghost use Rattle.pic_machine.specs.Chip.{Chip};
 ghost use Rattle.code_steps.specs.Laws.{Piece};
-ghost use Rattle.op_code.specs.Laws.{JumpArrives, MarkLiesWithin, PieceStands, PiecesApart, SkipDecides, StandsInParts, StandsRaised};
+ghost use Rattle.op_code.specs.Laws.{JumpArrives, MarkLiesWithin, OnceInBoth, PieceStands, PiecesApart, ShortReaches, SkipDecides, StandsInParts, StandsRaised};
 
 /// Items in two parts stand one after the other, where the first part ends in no skip instruction.
 pub fn stands_in_parts()
@@ -42,4 +42,14 @@ pub fn jump_arrives()
 pub fn skip_decides()
     ensures { (paged : Bool) (program marks : ℕ → ℕ) (piece : Piece) (p q m : ℕ) (i : AnyInstr) (test : Chip → Bool) (items : Items AnyItem) (c : Chip)
         → SkipDecides paged program marks piece p q m i test items c }
+{}
+
+/// In code without page settings a mark before a word is reached where bits 4 and 3 of PCLATH are 0.
+pub fn short_code_reaches()
+    ensures { (program marks : ℕ → ℕ) (q m : ℕ) (xs ys : Items AnyItem) (c : Chip) → ShortReaches program marks q m xs ys c }
+{}
+
+/// Each mark stands at most once in two parts that have no mark in common, where it does so in each.
+pub fn marks_stand_once()
+    ensures { (first second : ℕ → Bool) (xs ys : Items AnyItem) → OnceInBoth first second xs ys }
 {}

@@ -9,6 +9,6 @@ mod laws;
 
 pub use items::{Code, Item};
 pub use laws::{
-    each_piece_stands, jump_arrives, mark_lies_within, pieces_are_apart, skip_decides,
-    stands_in_parts, stands_raised,
+    each_piece_stands, jump_arrives, mark_lies_within, marks_stand_once, pieces_are_apart,
+    short_code_reaches, skip_decides, stands_in_parts, stands_raised,
 };
