@@ -3,5 +3,8 @@ pub mod CountLaws
 pub mod ItemLaws
 pub mod NameLaws
 pub mod OnceLaws
+pub mod PartLaws
+pub mod PutLaws
+pub mod SerialLaws
 pub mod StoryLaws
 pub mod WindowLaws
