@@ -1,10 +1,14 @@
 pub mod BootLaws
 pub mod CountLaws
+pub mod FittedLaws
 pub mod ItemLaws
 pub mod NameLaws
 pub mod OnceLaws
 pub mod PartLaws
 pub mod PutLaws
 pub mod SerialLaws
+pub mod SettleLaws
+pub mod SoundLaws
 pub mod StoryLaws
+pub mod UrgentLaws
 pub mod WindowLaws

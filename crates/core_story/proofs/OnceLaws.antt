@@ -23,7 +23,7 @@ module _ (p : ProgramTree) (m : Map) (is_map : IsMap m) (t : Timing) (log : Log)
   cleared_by_runs n x e h =
       omega (arith, cleared_count_is p m t log story n x e h, commit_count_is p m t log story is_map n x e h, (each_once t story.tale n x).clearings)
 
-  latched_by_runs : (n x : ℕ) (e : MapEvent) → item m.events x ≡ Some e → latched_count log e n ≡ commit_count m log e n + flag_after log e n + runs_of x (story.tale.stack n)
+  pub latched_by_runs : (n x : ℕ) (e : MapEvent) → item m.events x ≡ Some e → latched_count log e n ≡ commit_count m log e n + flag_after log e n + runs_of x (story.tale.stack n)
   latched_by_runs n x e h =
       omega (arith, latched_count_is p m t log story n x e h, commit_count_is p m t log story is_map n x e h, flag_after_is p m t log story n x e h, (each_once t story.tale n x).latches)
 
