@@ -1,6 +1,7 @@
 pub mod BootLaws
 pub mod CountLaws
 pub mod FittedLaws
+pub mod ImageLaws
 pub mod ItemLaws
 pub mod NameLaws
 pub mod OnceLaws

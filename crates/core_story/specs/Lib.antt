@@ -1,3 +1,4 @@
 pub mod Interface
+pub mod Laws
 pub mod Story
 pub mod Values
