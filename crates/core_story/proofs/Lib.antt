@@ -1,5 +1,6 @@
 pub mod BootLaws
 pub mod CountLaws
+pub mod DidLaws
 pub mod FittedLaws
 pub mod ImageLaws
 pub mod ItemLaws
