@@ -2,9 +2,9 @@
 use Rattle.std.specs.Prelude.{ℕ, ◌+◌, ◌%◌, ◌<◌, Bool, true, false, not, ◌&&◌, ◌==◌, Some}
 use Rattle.std.proofs.Common.{◌≡◌, refl, sym, ap, subst, ◌∙◌, arith}
 use Rattle.std.proofs.lemmas.Bool.{both_ways, or_right}
-use Rattle.std.proofs.Math.Bool.{and-not_self}
+use Rattle.std.proofs.Math.Bool.{and-not_self, and-false, and-true}
 use Rattle.pic_isa.specs.declared.sources.Source.{Source}
-use Rattle.pic_regs.specs.Bytes.{Byte, bits, num, one_if}
+use Rattle.pic_regs.specs.Bytes.{Byte, bits, num}
 use Rattle.pic_regs.specs.Map.{Reg}
 use Rattle.pic_regs.specs.Registers.{flag, requested, byte_at}
 use Rattle.pic_regs.proofs.ArrivalLaws.{flag-arrived}
@@ -12,7 +12,7 @@ use Rattle.pic_regs.proofs.ByteLaws.{num-bits}
 use Rattle.pic_machine.specs.Chip.{Chip}
 use Rattle.pic_machine.specs.Boundary.{Outer, Step, boundary}
 use Rattle.pic_machine.specs.Run.{program_of}
-use Rattle.pic_machine.proofs.TurnLaws.{with_outer, taking, takes-due, takes-it, flag-latched}
+use Rattle.pic_machine.proofs.TurnLaws.{with_outer, taking, takes-due, takes-it}
 use Rattle.pic_machine.specs.Dids.{is_taking, is_run_at, is_stop}
 use Rattle.counter_code.specs.declared.counters.Counter.{Counter}
 use Rattle.counter_code.specs.Counters.{IsCounter}
@@ -20,11 +20,11 @@ use Rattle.counter_code.specs.Layout.{state_byte, is_peripheral, image_of, ready
 use Rattle.firmware_promises.specs.Counts.{ran_at, interrupts_on, latches, clears, put_by}
 use Rattle.firmware_promises.specs.Counts as counts
 use Rattle.firmware_promises.specs.Urgent.{is_heard}
-use Rattle.counter_code.proofs.StoryFacts.{Place, Rests, Clears, Opens, Commits, rests, is_clearing, is_opening, is_committing, next, event_in_map, value_after, puts_at}
+use Rattle.counter_code.proofs.ControlFacts.{Place, Rests, Clears, Opens, Commits, rests, is_clearing, is_opening, is_committing, next, event_in_map, value_after, puts_at}
 use Rattle.counter_code.proofs.SpotFacts.{Kind, NoSetup, kind_of, ready_at, ready_is}
 use Rattle.counter_code.proofs.TargetFacts.{Aimed}
 use Rattle.counter_code.proofs.WriteFacts.{Listed, place_listed}
-use Rattle.counter_code.proofs.PlaceStepFacts.{Runs, Takes}
+use Rattle.counter_code.proofs.PlaceStepFacts.{Runs, Takes, flag_left}
 use Rattle.counter_code.proofs.PlaceRunFacts.{Stays, address_at, runs_here, delays_here, takes_here, request_here, silent_here, none_due_here, after_run, after_taking}
 
 -- What a step is, from a place, on a chip.
@@ -37,7 +37,7 @@ pub record Facts (c : Counter) (place : Place) (x : Chip) (step : Step) : Type 0
   pub hears_when : is_heard (event_in_map c) step ≡ rests place
   pub values : byte_at step.after.regs state_byte ≡ value_after c place (byte_at x.regs state_byte)
   pub puts : put_by step.port ≡ puts_at c place (byte_at x.regs state_byte)
-  pub ledger : one_if (flag c.source x.regs) + one_if (latches c.source step) ≡ one_if (flag c.source step.after.regs) + one_if (clears c.source step)
+  pub flags_when : flag c.source step.after.regs ≡ (flag c.source step.arrived.regs && not (is_clearing place))
   pub goes_on : is_stop step.did ≡ false
   pub listed : Listed c step.wrote
 
@@ -65,17 +65,6 @@ commits_there c _ = refl
 pub not_cleared : (source : Source) (step : Step) → flag source step.after.regs ≡ flag source step.arrived.regs → clears source step ≡ false
 not_cleared source step same = ap (λ b. flag source step.arrived.regs && not b) same ∙ and-not_self (flag source step.arrived.regs)
 
-pub ledger_of : (program : ℕ → ℕ) (outer : Outer) (x : Chip) (source : Source) →
-    flag source (boundary program outer x).after.regs ≡ flag source (boundary program outer x).arrived.regs
-    → one_if (flag source x.regs) + one_if (latches source (boundary program outer x))
-    ≡ one_if (flag source (boundary program outer x).after.regs) + one_if (clears source (boundary program outer x))
-ledger_of program outer x source same =
-    let step : Step = boundary program outer x in
-    let latched : one_if (flag source x.regs) + one_if (latches source step) ≡ one_if (flag source step.arrived.regs) = flag-latched source outer x in
-    let after : one_if (flag source step.after.regs) ≡ one_if (flag source step.arrived.regs) = ap one_if same in
-    let none : one_if (clears source step) ≡ 0 = ap one_if (not_cleared source step same) in
-    omega (arith, latched, after, none)
-
 cleared : (source : Source) (step : Step) → flag source step.arrived.regs ≡ true → flag source step.after.regs ≡ false → clears source step ≡ true
 cleared source step was now = λ i. was i && not (now i)
 
@@ -101,18 +90,10 @@ module _ (c : Counter) (fine : IsCounter c) (target : Reg) (is_aimed : Aimed c.s
   clears_of Clears due x outer h r = cleared c.source (step_from outer x) (flag-arrived c.source outer.arrivals x.regs ∙ or_right (outer.arrivals c.source) (flag c.source x.regs) (h.flagged refl)) r.flags
   clears_of _ due x outer h r = not_cleared c.source (step_from outer x) r.flags
 
-  abbrev Ledger : Chip → Step → Type 0
-  Ledger x step = one_if (flag c.source x.regs) + one_if (latches c.source step) ≡ one_if (flag c.source step.after.regs) + one_if (clears c.source step)
-
-  ledger_at : (place : Place) (due : Bool) (x : Chip) (outer : Outer) → Stays c target place x → Runs c place due x (step_from outer x) → Ledger x (step_from outer x)
-  ledger_at Clears due x outer h r =
-      let step : Step = step_from outer x in
-      let latched : one_if (flag c.source x.regs) + one_if (latches c.source step) ≡ one_if (flag c.source step.arrived.regs) = flag-latched c.source outer x in
-      let was : one_if (flag c.source step.arrived.regs) ≡ 1 = ap one_if (flag-arrived c.source outer.arrivals x.regs ∙ or_right (outer.arrivals c.source) (flag c.source x.regs) (h.flagged refl)) in
-      let now : one_if (flag c.source step.after.regs) ≡ 0 = ap one_if r.flags in
-      let one : one_if (clears c.source step) ≡ 1 = ap one_if (clears_of Clears due x outer h r) in
-      omega (arith, latched, was, now, one)
-  ledger_at _ due x outer h r = ledger_of (program_of (image_of c)) outer x c.source r.flags
+  flags_of : (place : Place) (step : Step) → flag c.source step.after.regs ≡ flag_left place (flag c.source step.arrived.regs)
+      → flag c.source step.after.regs ≡ (flag c.source step.arrived.regs && not (is_clearing place))
+  flags_of Clears step e = e ∙ sym (and-false (flag c.source step.arrived.regs))
+  flags_of _ step e = e ∙ sym (and-true (flag c.source step.arrived.regs))
 
   -- A step that runs the place's instruction, where nothing is taken.
   run_facts : (place : Place) (due : Bool) (x : Chip) (outer : Outer) → Stays c target place x → Runs c place due x (step_from outer x) → Facts c place x (step_from outer x)
@@ -125,7 +106,7 @@ module _ (c : Counter) (fine : IsCounter c) (target : Reg) (is_aimed : Aimed c.s
     hears_when = r.hears;
     values = values_of place due x (step_from outer x) h r;
     puts = puts_of place due x (step_from outer x) h r;
-    ledger = ledger_at place due x outer h r;
+    flags_when = flags_of place (step_from outer x) r.flags;
     goes_on = r.stop;
     listed = subst (Listed c) (sym r.wrote) (place_listed c place fine.port);
   }
@@ -140,7 +121,7 @@ module _ (c : Counter) (fine : IsCounter c) (target : Reg) (is_aimed : Aimed c.s
     hears_when = t.hears;
     values = ap (λ (memory : ℕ → Byte). num (memory state_byte)) t.plain;
     puts = ap put_by t.port;
-    ledger = ledger_of (program_of (image_of c)) outer x c.source t.flags;
+    flags_when = t.flags ∙ sym (and-true (flag c.source (step_from outer x).arrived.regs));
     goes_on = ap is_stop t.did;
     listed = subst (Listed c) (sym t.wrote) tt;
   }

@@ -16,7 +16,7 @@ use Rattle.pic_machine.proofs.TurnLaws.{with_outer, running, delaying, taking, r
 use Rattle.counter_code.specs.declared.counters.Counter.{Counter}
 use Rattle.counter_code.specs.Counters.{IsCounter}
 use Rattle.counter_code.specs.Layout.{state_byte, is_peripheral, image_of, ready_address}
-use Rattle.counter_code.proofs.StoryFacts.{Place, Rests, Clears, Loads, Adds, Opens, Commits, Returns, rests, next}
+use Rattle.counter_code.proofs.ControlFacts.{Place, Rests, Clears, Loads, Adds, Opens, Commits, Returns, rests, next}
 use Rattle.counter_code.proofs.SpotFacts.{Kind, NoSetup, Spot, At, byte_of, kind_of, instruction_at, standing_order, ready_at, ready_is, spot_at, found}
 use Rattle.counter_code.proofs.TargetFacts.{Aimed, Stands}
 use Rattle.counter_code.proofs.BootStepFacts.{known}
@@ -68,7 +68,7 @@ standing NoSetup false = (refl, refl, refl, refl, refl, refl, refl)
 standing _ true = (refl, refl, refl, refl, refl, refl, refl)
 standing _ false = (refl, refl, refl, refl, refl, refl, refl)
 
-place_stands : (c : Counter) (place : Place) → spot_at (standing_order (kind_of c.setup) (is_peripheral c.source)) (address_at c place) ≡ Some (At place)
+pub place_stands : (c : Counter) (place : Place) → spot_at (standing_order (kind_of c.setup) (is_peripheral c.source)) (address_at c place) ≡ Some (At place)
 place_stands c Rests = ap (spot_at (standing_order (kind_of c.setup) (is_peripheral c.source))) (ready_is c) ∙ (standing (kind_of c.setup) (is_peripheral c.source)).6
 place_stands c Clears = (standing (kind_of c.setup) (is_peripheral c.source)).0
 place_stands c Loads = (standing (kind_of c.setup) (is_peripheral c.source)).1

@@ -19,7 +19,7 @@ use Rattle.counter_code.specs.declared.counters.Counter.{Counter}
 use Rattle.counter_code.specs.Layout.{state_byte, ready_address}
 use Rattle.firmware_promises.specs.Counts.{interrupts_on}
 use Rattle.firmware_promises.specs.Urgent.{is_heard}
-use Rattle.counter_code.proofs.StoryFacts.{Place, Rests, Clears, Loads, Adds, Opens, Commits, Returns, rests, next, event_in_map}
+use Rattle.counter_code.proofs.ControlFacts.{Place, Rests, Clears, Loads, Adds, Opens, Commits, Returns, rests, next, event_in_map}
 use Rattle.counter_code.proofs.SpotFacts.{instruction_at}
 use Rattle.counter_code.proofs.BootStepFacts.{pie1_of, pie2_of, intcon_with}
 

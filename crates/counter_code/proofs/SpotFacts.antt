@@ -16,7 +16,7 @@ use Rattle.counter_code.specs.declared.counters.SetupAt.{SetupAt}
 use Rattle.counter_code.specs.Counters.{IsCounter}
 use Rattle.counter_code.specs.Layout.{status, intcon, state_byte, port_address, in_bank_1, low_bits, setup_code, setup_in_bank_0, setup_in_bank_1, is_peripheral, set_bit, clear_bit, within_bank_1, intcon_enable, boot_code, handler, boot_rest, ready_address, code_of, words_from, image_of}
 use Rattle.counter_code.proofs.CodeLaws.{fit_code}
-use Rattle.counter_code.proofs.StoryFacts.{Place, Rests, Clears, Loads, Adds, Opens, Commits, Returns}
+use Rattle.counter_code.proofs.ControlFacts.{Place, Rests, Clears, Loads, Adds, Opens, Commits, Returns}
 
 -- Where the setup's register is.
 pub data Kind : Type 0 where

@@ -13,7 +13,7 @@ use Rattle.counter_code.specs.declared.counters.SetupAt.{SetupAt}
 use Rattle.counter_code.specs.Layout.{status, intcon, state_byte, port_address, in_bank_1, is_peripheral}
 use Rattle.counter_code.specs.Maps.{map_of, is_written, is_set_up, sets_up_bank_1}
 use Rattle.firmware_promises.specs.MapNames.{is_listed}
-use Rattle.counter_code.proofs.StoryFacts.{Place, Clears, Opens, Commits}
+use Rattle.counter_code.proofs.ControlFacts.{Place, Clears, Opens, Commits}
 use Rattle.counter_code.proofs.SpotFacts.{LowSetup, HighSetup, Spot, StoresInit, StoresSetup, ChoosesHigh, EnablesHigh, ChoosesLow, Enables, TurnsOn, kind_of}
 use Rattle.counter_code.proofs.BootStepFacts.{is_high, register_of}
 use Rattle.counter_code.proofs.TargetFacts.{Aimed, has_setup, is_there}
