@@ -1,6 +1,7 @@
 pub mod BootLaws
 pub mod CountLaws
 pub mod DidLaws
+pub mod Examples
 pub mod FittedLaws
 pub mod ImageLaws
 pub mod ItemLaws
