@@ -50,25 +50,25 @@ module _ (p : Timing) (now : ℕ → Bool) where
 
 module _ (m : Map) where
   -- By its label, what a step opens and commits.
-  opened_none : (label : Label) (step : Step) → ((x : ℕ) (e : MapEvent) → item m.events x ≡ Some e → ran_at e.«open» step ≡ false) → logs.opened_by m step ≡ []
-  opened_none label step h = ap (map (λ (e : MapEvent). e.name)) (filter_none m.events (λ e. ran_at e.«open» step) h)
+  opened_none : (step : Step) → ((x : ℕ) (e : MapEvent) → item m.events x ≡ Some e → ran_at e.«open» step ≡ false) → logs.opened_by m step ≡ []
+  opened_none step h = ap (map (λ (e : MapEvent). e.name)) (filter_none m.events (λ e. ran_at e.«open» step) h)
 
-  committed_none : (label : Label) (step : Step) → ((x : ℕ) (e : MapEvent) → item m.events x ≡ Some e → ran_at e.commit step ≡ false) → logs.committed_by m step ≡ []
-  committed_none label step h = ap (map (λ (e : MapEvent). e.name)) (filter_none m.events (λ e. ran_at e.commit step) h)
+  committed_none : (step : Step) → ((x : ℕ) (e : MapEvent) → item m.events x ≡ Some e → ran_at e.commit step ≡ false) → logs.committed_by m step ≡ []
+  committed_none step h = ap (map (λ (e : MapEvent). e.name)) (filter_none m.events (λ e. ran_at e.commit step) h)
 
   opened_by_label : (label : Label) (step : Step) → ((x : ℕ) (e : MapEvent) → item m.events x ≡ Some e → ran_at e.«open» step ≡ is_opening x label)
       → ((e : ℕ) → label ≡ Opens e → 0 < level_at m e) → logs.opened_by m step ≡ map (name_at m) (cores.opened_by label)
   opened_by_label (Opens h) step told real =
       let there = event_with_level m h (real h refl) in
       ap (map (λ (e : MapEvent). e.name)) (filter_one m.events (λ e. ran_at e.«open» step) h told there.0 there.1) ∙ ap (λ name. name ∷ []) (sym (name_of_item m h there.0 there.1))
-  opened_by_label label step told real = opened_none label step told
+  opened_by_label label step told real = opened_none step told
 
   committed_by_label : (label : Label) (step : Step) → ((x : ℕ) (e : MapEvent) → item m.events x ≡ Some e → ran_at e.commit step ≡ is_commit x label)
       → ((e : ℕ) → label ≡ Commits e → 0 < level_at m e) → logs.committed_by m step ≡ map (name_at m) (cores.committed_by label)
   committed_by_label (Commits h) step told real =
       let there = event_with_level m h (real h refl) in
       ap (map (λ (e : MapEvent). e.name)) (filter_one m.events (λ e. ran_at e.commit step) h told there.0 there.1) ∙ ap (λ name. name ∷ []) (sym (name_of_item m h there.0 there.1))
-  committed_by_label label step told real = committed_none label step told
+  committed_by_label label step told real = committed_none step told
 
 module _ (p : ProgramTree) (m : Map) (t : Timing) (log : Log) (story : Story p m t log) where
   abbrev tale : Tale t

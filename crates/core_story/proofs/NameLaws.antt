@@ -38,7 +38,7 @@ filter_one (e ∷ es) test (suc h) one d there =
 pub name_of_item : (m : Map) (x : ℕ) (e : MapEvent) → item m.events x ≡ Some e → name_at m x ≡ e.name
 name_of_item m x e h = ap (λ (o : Option MapEvent). elim o [ Some d ↦ d.name | None ↦ [] ]) h
 
--- Of one event's name, and of another's.
+-- One event's name is another's where the numbers are the same.
 pub same_name : (m : Map) → AllDiffer (λ (e : MapEvent). e.name) m.events → (x y : ℕ) (e d : MapEvent) → item m.events x ≡ Some e → item m.events y ≡ Some d → bytes_eq e.name (name_at m y) ≡ (x == y)
 same_name m differ x y e d at_x at_y = by (cases_eq x y)
   where
@@ -48,10 +48,3 @@ same_name m differ x y e d at_x at_y = by (cases_eq x y)
     by (inr other) =
         false_from_ne_true (bytes_eq e.name (name_at m y)) (λ equal. differ_items (λ (a : MapEvent). a.name) m.events differ x y e d at_x at_y other ((bytes_eq-Decides e.name (name_at m y)).0 equal ∙ name_of_item m y d at_y))
         ∙ sym (ne_eqb x y other)
-
-pub other_name : (m : Map) → AllDiffer (λ (e : MapEvent). e.name) m.events → (x y : ℕ) (e d : MapEvent) → item m.events x ≡ Some e → item m.events y ≡ Some d → name_at m x ≡ name_at m y → x ≡ y
-other_name m differ x y e d at_x at_y same = by (cases_eq x y)
-  where
-    by : (x ≡ y) ⊎ (x ≡ y → ⊥) → x ≡ y
-    by (inl it) = it
-    by (inr other) = absurd (differ_items (λ (a : MapEvent). a.name) m.events differ x y e d at_x at_y other (sym (name_of_item m x e at_x) ∙ same ∙ name_of_item m y d at_y))

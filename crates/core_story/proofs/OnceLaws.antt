@@ -28,9 +28,7 @@ module _ (p : ProgramTree) (m : Map) (is_map : IsMap m) (t : Timing) (log : Log)
       omega (arith, latched_count_is p m t log story n x e h, commit_count_is p m t log story is_map n x e h, flag_after_is p m t log story n x e h, (each_once t story.tale n x).latches)
 
   pub no_run_of : (n x : ℕ) (e : MapEvent) → item m.events x ≡ Some e → is_under_way m log e n ≡ false → runs_of x (story.tale.stack n) ≡ 0
-  no_run_of n x e h none =
-      let not_one = eqb-false (cleared_count log e n) (commit_count m log e n + 1) none in
-      by (runs_of x (story.tale.stack n)) refl
+  no_run_of n x e h none = by (runs_of x (story.tale.stack n)) refl
     where
       by : (k : ℕ) → runs_of x (story.tale.stack n) ≡ k → runs_of x (story.tale.stack n) ≡ 0
       by zero e = e

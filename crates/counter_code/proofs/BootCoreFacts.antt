@@ -91,9 +91,6 @@ module _ (c : Counter) (fine : IsCounter c) (target : Reg) (is_aimed : Aimed c.s
       → ((put_by (shown_at c target s) ≡ []) × (boot_values c (does s st) ≡ boot_values c st)) ⊎ ((b : PortWrite) × (put_by (shown_at c target s) ≡ b ∷ []) × (boot_left c st ≡ b ∷ boot_left c (does s st)))
   put_or_not StoresSetup st there once = by (few c.setup)
     where
-      all : List PortWrite
-      all = setup_puts (program_of c)
-
       by : (setup_puts (program_of c) ≡ []) ⊎ ((b : PortWrite) × (setup_puts (program_of c) ≡ b ∷ []))
           → ((put_by (shown_at c target StoresSetup) ≡ []) × (boot_values c (does StoresSetup st) ≡ boot_values c st))
           ⊎ ((b : PortWrite) × (put_by (shown_at c target StoresSetup) ≡ b ∷ []) × (boot_left c st ≡ b ∷ boot_left c (does StoresSetup st)))
@@ -235,10 +232,10 @@ module _ (c : Counter) (fine : IsCounter c) (target : Reg) (is_aimed : Aimed c.s
   }
 
   -- What is seen of it on the way.
-  abbrev Apart : ℕ → Chip → Type 0
-  Apart j x = (x.regs.intcon.b7 ≡ false) × ((x.pc ≡ ready_address c) → ⊥) × (x.depth ≡ 0)
+  abbrev Apart : Chip → Type 0
+  Apart x = (x.regs.intcon.b7 ≡ false) × ((x.pc ≡ ready_address c) → ⊥) × (x.depth ≡ 0)
 
-  seen_by : (spots : List Spot) (st : Done) (address : ℕ) (x : Chip) → Way (kind_of c.setup) (is_peripheral c.source) spots st address → LastTurns spots → BootAt c target st address x → Apart 0 x
+  seen_by : (spots : List Spot) (st : Done) (address : ℕ) (x : Chip) → Way (kind_of c.setup) (is_peripheral c.source) spots st address → LastTurns spots → BootAt c target st address x → Apart x
   seen_by [] st address x its turns h = absurd turns
   seen_by (s ∷ spots) st address x its turns h =
       let parts = or_parts (address == ready_at (kind_of c.setup) (is_peripheral c.source) || address == 7) (address == 8) its.2 in
@@ -248,5 +245,5 @@ module _ (c : Counter) (fine : IsCounter c) (target : Reg) (is_aimed : Aimed c.s
         ap (λ (y : Chip). y.depth) (sym h.known),
       )
 
-  pub seen_in_boot : (j : ℕ) (v : Values) (x : Chip) → InBoot c target j v x → Apart j x
+  pub seen_in_boot : (j : ℕ) (v : Values) (x : Chip) → InBoot c target j v x → Apart x
   seen_in_boot j v x h = seen_by h.spots h.st h.address x h.way h.turns h.here

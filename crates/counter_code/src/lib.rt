@@ -3,8 +3,8 @@
 //!
 //! Contracts see a `Counter` as the program that it stands for. The proof that each run of its code keeps what
 //! firmware promises, in proofs/, has three parts: what each instruction of the boot and of the handler does to a chip
-//! of which only the bank, the enables, GIE and the depth are known; that so every run tells its story, in which the
-//! chip's insides are gone; and that a log that tells its story keeps the promises. The compiler stands on this crate.
+//! of which only the bank, the enables, GIE and the depth are known; a relation between the core of priorities and such
+//! a chip; and that each step keeps it. The promises follow by `core_story`. The compiler stands on this crate.
 #![tactic(auto)]
 
 mod counters;
