@@ -4,3 +4,4 @@ pub mod FirstMarkFacts
 pub mod FirstNumberFacts
 pub mod RunFacts
 pub mod FirstTokenFacts
+pub mod PhraseLaws

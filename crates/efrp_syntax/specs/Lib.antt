@@ -1,3 +1,4 @@
+pub mod Answers
 pub mod Lexed
 pub mod Parsed
 pub mod Pieces

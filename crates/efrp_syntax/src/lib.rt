@@ -4,6 +4,7 @@
 //! no token, blank or comment begins at. The tool's front end stands on it.
 #![tactic(auto)]
 
+mod begun;
 mod classes;
 mod faults;
 mod keywords;
@@ -12,6 +13,7 @@ mod lexer;
 mod marks;
 mod numbers;
 mod prefixes;
+mod readers;
 
 pub use faults::SyntaxFault;
 pub use frp_tree::{Kind, Token};

@@ -1,0 +1,78 @@
+// What a token begins, and why a reader of tokens stops.
+ghost use Rattle.std.specs.Prelude.{◌≡◌, Some, None};
+
+use frp_tree::Kind;
+use std::alloc::{AllocError, AllocFailed};
+
+/// What one token begins: the kind of it, if it is counted; and, where it is an entry, its number in its table, from
+/// 1, else 0.
+#[derive(Clone, Copy, Debug, PartialEq, Eq)]
+pub struct Begun {
+    pub kind: Option<Kind>,
+    pub entry: u32,
+}
+
+impl Begun {
+    /// Nothing that is counted. Takes no memory.
+    pub fn nothing() -> Begun
+        ensures { result ≡ record { kind = None; entry = 0 } }
+    {
+        Begun {
+            kind: None,
+            entry: 0,
+        }
+    }
+
+    /// One of this kind, and no entry. Takes no memory.
+    pub fn one(kind: Kind) -> Begun
+        ensures { result ≡ record { kind = Some kind; entry = 0 } }
+    {
+        Begun {
+            kind: Some(kind),
+            entry: 0,
+        }
+    }
+
+    /// The entry of this number in its table. Takes no memory.
+    pub fn entry(number: u32) -> Begun
+        ensures { result ≡ record { kind = Some Kind.Entries; entry = number } }
+    {
+        Begun {
+            kind: Some(Kind::Entries),
+            entry: number,
+        }
+    }
+}
+
+/// Why a reader of tokens stops. The number is how many tokens are left, from the one on at which it stops.
+#[derive(Clone, Copy, Debug, PartialEq, Eq)]
+pub enum Stop {
+    /// Nothing that is read goes on with this token.
+    Unexpected(usize),
+    /// This token opens a nesting past the limit.
+    TooDeep(usize),
+    /// Out of memory.
+    Memory,
+}
+
+impl From<AllocError> for Stop {
+    ghost use Rattle.std.specs.Prelude.{◌≡◌};
+    ghost use Rattle.efrp_syntax.specs.declared.begun.Stop.TheVariants.{Memory};
+
+    ghost from_gives = { λ _ stop. stop ≡ Memory };
+
+    fn from(_error: AllocError) -> Stop {
+        Stop::Memory
+    }
+}
+
+impl<T: Drop> From<AllocFailed<T>> for Stop {
+    ghost use Rattle.std.specs.Prelude.{◌≡◌};
+    ghost use Rattle.efrp_syntax.specs.declared.begun.Stop.TheVariants.{Memory};
+
+    ghost from_gives = { λ _ stop. stop ≡ Memory };
+
+    fn from(_error: AllocFailed<T>) -> Stop {
+        Stop::Memory
+    }
+}
