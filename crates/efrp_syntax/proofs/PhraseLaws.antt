@@ -1,6 +1,9 @@
 -- The laws on kinds of phrases: what comes of the parts of a phrase comes of the whole.
-use Rattle.std.proofs.Common.{◌≡◌, ◌≢◌, ℕ, ◌+◌, ◌<◌, ◌≤◌, List, [], ◌∷◌, ◌++◌, length, map, Option, Some, None, refl, sym, ap, subst, ◌∙◌, arith}
+use Rattle.std.proofs.Common.{◌≡◌, ◌≢◌, ℕ, ◌+◌, ◌<◌, ◌≤◌, List, [], ◌∷◌, ◌++◌, length, map, Option, Some, None, Result, Ok, Err, refl, sym, ap, subst, ◌∙◌, arith}
 use Rattle.std.specs.List.{AllByRecursion}
+use Rattle.std.specs.Borrow.{Bor}
+use Rattle.std.specs.Result.{IsErrAnd}
+use Rattle.std.proofs.lemmas.Result.{err_from_is_err_and}
 use Rattle.std.proofs.lemmas.List.{append-nil, append_assoc, length-append, append_cancel_left}
 use Rattle.frp_tree.specs.declared.limits.TheConstants.{DEEPEST_NESTING}
 use Rattle.frp_tree.specs.declared.tokens.Token.{Token}
@@ -8,7 +11,7 @@ use Rattle.frp_tree.specs.Cells.{Cell, tokens_of}
 use Rattle.efrp_syntax.specs.declared.begun.Begun.{Begun}
 use Rattle.efrp_syntax.specs.declared.begun.Stop.{Stop}
 use Rattle.efrp_syntax.specs.declared.begun.Stop.TheVariants.{Unexpected, TooDeep, Memory}
-use Rattle.efrp_syntax.specs.Answers.{head, begun, IsShallow, Found, Why, Odd, Deep, IsDeepAt, IsDeepNext, Next, Bad, Stuck, Fails, odd, deep, memory, One, Tok, Done, Seq, Example, Fits, Like}
+use Rattle.efrp_syntax.specs.Answers.{Answers, Passes, head, begun, IsShallow, Found, Why, Odd, Deep, IsDeepAt, IsDeepNext, Next, Bad, Stuck, Fails, odd, deep, memory, One, Tok, Done, Seq, Example, Fits, Like}
 
 -- Lists of cells and of tokens.
 
@@ -265,3 +268,10 @@ stuck_tok cell S ts before none = stuck_one (λ u. cell) (λ u. Unit {0}) S ts t
 pub deep_tok : (cell : Cell) (S : List Token → Type 0) (ts rest : List Token) (before : List Begun)
     → ts ≡ cell.token ∷ rest → DEEPEST_NESTING < cell.opens → Fails (Tok cell) S ts before before (TooDeep (length ts))
 deep_tok cell S ts rest before split low = deep_one (λ u. cell) (λ u. Unit {0}) S ts rest tt before split tt (λ other. low)
+
+-- Out of memory.
+pub out_of_memory : {A T : Type 0} (G : A → List Cell → Type 0) (S : List Token → Type 0) (view : T → A) (ts : List Token) (before after : List Begun) (result : Result (T × Bor (List Token)) Stop) → IsErrAnd result (λ stop. stop ≡ Memory) → Answers G S view ts before after result
+out_of_memory G S view ts before after result h = let p = err_from_is_err_and result h in rw (p.1, p.2) memory
+
+pub passes_out_of_memory : (G : Unit {0} → List Cell → Type 0) (S : List Token → Type 0) (ts : List Token) (before after : List Begun) (result : Result (Bor (List Token)) Stop) → IsErrAnd result (λ stop. stop ≡ Memory) → Passes G S ts before after result
+passes_out_of_memory G S ts before after result h = let p = err_from_is_err_and result h in rw (p.1, p.2) memory

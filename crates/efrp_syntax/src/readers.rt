@@ -11,12 +11,22 @@ use crate::keywords::is_keyword;
 use frp_tree::{List, Lit, Text, Token};
 use std::alloc::Global;
 
+/// The next token and those behind it. Takes no memory.
+fn split(tokens: &[Token]) -> Option<(&Token, &[Token])>
+    ensures { MatchOption result (tokens.now ≡ []) (λ found. tokens.now ≡ found.0.now ∷ found.1.now) }
+{
+    match tokens {
+        [first, rest @ ..] => Some((first, rest)),
+        [] => None,
+    }
+}
+
 /// What follows this word, where the tokens begin with it. Takes no memory.
 pub fn behind_word<'a>(word: &str, tokens: &'a [Token]) -> Option<&'a [Token]>
     ensures { MatchOption result (head tokens.now ≢ Some (token.Word word.now)) (λ rest. tokens.now ≡ token.Word word.now ∷ rest.now) }
 {
-    match tokens {
-        [Token::Word(next), rest @ ..] if next.as_str() == word => Some(rest),
+    match split(tokens) {
+        Some((Token::Word(next), rest)) if next.as_str() == word => Some(rest),
         _ => None,
     }
 }
