@@ -5,3 +5,6 @@ pub mod FirstNumberFacts
 pub mod RunFacts
 pub mod FirstTokenFacts
 pub mod PhraseLaws
+pub mod LoopLaws
+pub mod EndFacts
+pub mod RowFacts

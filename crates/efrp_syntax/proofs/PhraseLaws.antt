@@ -19,7 +19,7 @@ pub map_append : {A B : Type 0} (f : A → B) (xs ys : List A) → map f (xs ++ 
 map_append f [] ys = refl
 map_append f (x ∷ xs) ys = ap (λ zs. f x ∷ zs) (map_append f xs ys)
 
-tokens_append : (xs ys : List Cell) (rest : List Token) → tokens_of (xs ++ ys) ++ rest ≡ tokens_of xs ++ (tokens_of ys ++ rest)
+pub tokens_append : (xs ys : List Cell) (rest : List Token) → tokens_of (xs ++ ys) ++ rest ≡ tokens_of xs ++ (tokens_of ys ++ rest)
 tokens_append xs ys rest = ap (λ ts. ts ++ rest) (map_append (λ (c : Cell). c.token) xs ys) ∙ append_assoc (tokens_of xs) (tokens_of ys) rest
 
 pub shallow_append : (xs ys : List Cell) → IsShallow xs → IsShallow ys → IsShallow (xs ++ ys)

@@ -21,6 +21,10 @@ begun c = record { kind = c.begins; entry = c.entry }
 abbrev pub noted : Begun → Token → Cell
 noted note t = record { token = t; opens = 0; begins = note.kind; entry = note.entry }
 
+-- The cell of a token that opens a nesting.
+abbrev pub opened : Begun → ℕ → Token → Cell
+opened note nesting t = record { token = t; opens = nesting; begins = note.kind; entry = note.entry }
+
 abbrev pub IsShallow : List Cell → Type 0
 IsShallow cells = AllByRecursion (λ (c : Cell). c.opens ≤ DEEPEST_NESTING) cells
 

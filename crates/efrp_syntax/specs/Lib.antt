@@ -1,4 +1,5 @@
 pub mod Answers
+pub mod Expressions
 pub mod Lexed
 pub mod Parsed
 pub mod Pieces

@@ -1,5 +1,5 @@
 // What a token begins, and why a reader of tokens stops.
-ghost use Rattle.std.specs.Prelude.{◌≡◌, Some, None};
+ghost use Rattle.std.specs.Prelude.{◌≡◌, Some};
 
 use frp_tree::Kind;
 use std::alloc::{AllocError, AllocFailed};
@@ -12,17 +12,19 @@ pub struct Begun {
     pub entry: u32,
 }
 
-impl Begun {
-    /// Nothing that is counted. Takes no memory.
-    pub fn nothing() -> Begun
-        ensures { result ≡ record { kind = None; entry = 0 } }
-    {
-        Begun {
-            kind: None,
-            entry: 0,
-        }
-    }
+/// Nothing that is counted.
+pub const NOTHING: Begun = Begun {
+    kind: None,
+    entry: 0,
+};
 
+/// A node of an expression.
+pub const NODE: Begun = Begun {
+    kind: Some(Kind::Nodes),
+    entry: 0,
+};
+
+impl Begun {
     /// One of this kind, and no entry. Takes no memory.
     pub fn one(kind: Kind) -> Begun
         ensures { result ≡ record { kind = Some kind; entry = 0 } }

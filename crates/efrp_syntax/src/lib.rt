@@ -6,6 +6,7 @@
 
 mod begun;
 mod classes;
+mod expressions;
 mod faults;
 mod keywords;
 mod laws;

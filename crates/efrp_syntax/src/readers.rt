@@ -12,7 +12,7 @@ use frp_tree::{List, Lit, Text, Token};
 use std::alloc::Global;
 
 /// The next token and those behind it. Takes no memory.
-fn split(tokens: &[Token]) -> Option<(&Token, &[Token])>
+pub fn split(tokens: &[Token]) -> Option<(&Token, &[Token])>
     ensures { MatchOption result (tokens.now ≡ []) (λ found. tokens.now ≡ found.0.now ∷ found.1.now) }
 {
     match tokens {
