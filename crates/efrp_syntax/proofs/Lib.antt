@@ -8,3 +8,7 @@ pub mod PhraseLaws
 pub mod LoopLaws
 pub mod EndFacts
 pub mod RowFacts
+pub mod ComparisonFacts
+pub mod ShiftFacts
+pub mod OperandFacts
+pub mod ExitFacts

@@ -40,6 +40,7 @@ end_like Step T rest a bar = record {
   where
     into : (e : _) (w : List Cell) → Done a e w → Steps Step a e w
     into e w d = subst (Steps Step a e) (sym d.whole) (subst (λ x. Steps Step a x []) (sym d.value) ends)
+
     from : (e : _) (w : List Cell) (c : List Token) → Steps Step a e w → T c → head (tokens_of w ++ c) ≡ head rest → Done a e w
     from e w c ends t h = record { value = refl; whole = refl }
     from e w c (goes us vs s g) t h = absurd (bar _ us (tokens_of vs ++ c) s (ap head (sym (tokens_append us vs c)) ∙ h))

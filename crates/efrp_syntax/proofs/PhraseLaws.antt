@@ -275,3 +275,24 @@ out_of_memory G S view ts before after result h = let p = err_from_is_err_and re
 
 pub passes_out_of_memory : (G : Unit {0} → List Cell → Type 0) (S : List Token → Type 0) (ts : List Token) (before after : List Begun) (result : Result (Bor (List Token)) Stop) → IsErrAnd result (λ stop. stop ≡ Memory) → Passes G S ts before after result
 passes_out_of_memory G S ts before after result h = let p = err_from_is_err_and result h in rw (p.1, p.2) memory
+
+-- What is left is no longer than what was there.
+pub found_shorter : {A : Type 0} {G : A → List Cell → Type 0} {S : List Token → Type 0} {ts rest : List Token} {e : A} {before after : List Begun} → Found G S ts e rest before after → length rest ≤ length ts
+found_shorter {rest = rest} f = omega (arith, ap length f.split, length-append (tokens_of f.used) rest)
+
+-- A stop is passed on.
+pub answers_stop : {A T : Type 0} (G : A → List Cell → Type 0) (S : List Token → Type 0) (view : T → A) (ts : List Token) (before after : List Begun) (result : Result (T × Bor (List Token)) Stop) (stop : Stop)
+    → IsErrAnd result (λ told. told ≡ stop) → Fails G S ts before after stop → Answers G S view ts before after result
+answers_stop G S view ts before after result stop h f = let p = err_from_is_err_and result h in rw (p.1, p.2) f
+
+-- An answer of the last part, and one of a kind that the next token chose.
+
+pub answers_like : {A T : Type 0} {G H : A → List Cell → Type 0} {S U : List Token → Type 0} {ts : List Token} (view : T → A) (before after : List Begun) (result : Result (T × Bor (List Token)) Stop)
+    → Like G S H U ts → Answers G S view ts before after result → Answers H U view ts before after result
+answers_like view before after (Ok found) like f = found_like like f
+answers_like view before after (Err stop) like f = fails_like like f
+
+pub answers_next : {A B T : Type 0} {G : A → List Cell → Type 0} {S U : List Token → Type 0} {K : A → B → List Cell → Type 0} {ts rest : List Token} {a : A} {before mid : List Begun} (view : T → B) (after : List Begun) (result : Result (T × Bor (List Token)) Stop)
+    → Fits G S K U → Found G S ts a rest before mid → Answers (K a) U view rest mid after result → Answers (Seq G K) U view ts before after result
+answers_next view after (Ok found) fits f g = found_next fits f g
+answers_next view after (Err stop) fits f g = fails_next fits f g

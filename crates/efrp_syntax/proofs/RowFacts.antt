@@ -55,16 +55,16 @@ abbrev pub ShiftStep : Tree → Tree → List Cell → Type 0
 ShiftStep a = Seq SideOf (λ (side : Side). Seq Amount (λ (n : ℕ). Done (Shift side a n)))
 
 -- The same, unfolded.
-record IsRowStep (l : Level) (d : ℕ) (a e : Tree) (w : List Cell) : Type 0 where
-  op : BinOp
-  right : Tree
-  us : List Cell
-  at_level : level_of op ≡ l
-  spelled : SpellsExpr (tighter l) d right us
-  value : e ≡ Binary op a right
-  whole : w ≡ node (Mark (mark_of op)) ∷ us
+pub record IsRowStep (l : Level) (d : ℕ) (a e : Tree) (w : List Cell) : Type 0 where
+  pub op : BinOp
+  pub right : Tree
+  pub us : List Cell
+  pub at_level : level_of op ≡ l
+  pub spelled : SpellsExpr (tighter l) d right us
+  pub value : e ≡ Binary op a right
+  pub whole : w ≡ node (Mark (mark_of op)) ∷ us
 
-row_step : {l : Level} {d : ℕ} {a e : Tree} {w : List Cell} → RowStep l d a e w → IsRowStep l d a e w
+pub row_step : {l : Level} {d : ℕ} {a e : Tree} {w : List Cell} → RowStep l d a e w → IsRowStep l d a e w
 row_step s = let t = s.then_spelled in record {
   op = s.first;
   right = t.first;
@@ -75,7 +75,7 @@ row_step s = let t = s.then_spelled in record {
   whole = s.whole ∙ ap (λ cs. cs ++ s.back) s.spelled.whole ∙ ap (λ cs. node (Mark (mark_of s.first)) ∷ cs) (t.whole ∙ ap (λ cs. t.front ++ cs) t.then_spelled.whole ∙ append-nil t.front);
 }
 
-row_step_of : {l : Level} {d : ℕ} (op : BinOp) (a b : Tree) (us : List Cell) → level_of op ≡ l → SpellsExpr (tighter l) d b us → RowStep l d a (Binary op a b) (node (Mark (mark_of op)) ∷ us)
+pub row_step_of : {l : Level} {d : ℕ} (op : BinOp) (a b : Tree) (us : List Cell) → level_of op ≡ l → SpellsExpr (tighter l) d b us → RowStep l d a (Binary op a b) (node (Mark (mark_of op)) ∷ us)
 row_step_of op a b us h s = record {
   first = op;
   front = node (Mark (mark_of op)) ∷ [];
@@ -85,13 +85,13 @@ row_step_of op a b us h s = record {
   whole = refl;
 }
 
-record IsShiftStep (a e : Tree) (w : List Cell) : Type 0 where
-  side : Side
-  amount : ℕ
-  value : e ≡ Shift side a amount
-  whole : w ≡ node (Mark (mark_of_shift side)) ∷ plain (Num amount) ∷ []
+pub record IsShiftStep (a e : Tree) (w : List Cell) : Type 0 where
+  pub side : Side
+  pub amount : ℕ
+  pub value : e ≡ Shift side a amount
+  pub whole : w ≡ node (Mark (mark_of_shift side)) ∷ plain (Num amount) ∷ []
 
-shift_step : {a e : Tree} {w : List Cell} → ShiftStep a e w → IsShiftStep a e w
+pub shift_step : {a e : Tree} {w : List Cell} → ShiftStep a e w → IsShiftStep a e w
 shift_step s = let t = s.then_spelled in record {
   side = s.first;
   amount = t.first;
@@ -99,7 +99,7 @@ shift_step s = let t = s.then_spelled in record {
   whole = s.whole ∙ ap (λ cs. cs ++ s.back) s.spelled.whole ∙ ap (λ cs. node (Mark (mark_of_shift s.first)) ∷ cs) (t.whole ∙ ap (λ cs. cs ++ t.back) t.spelled.whole ∙ ap (λ cs. plain (Num t.first) ∷ cs) t.then_spelled.whole);
 }
 
-shift_step_of : (side : Side) (a : Tree) (n : ℕ) → ShiftStep a (Shift side a n) (node (Mark (mark_of_shift side)) ∷ plain (Num n) ∷ [])
+pub shift_step_of : (side : Side) (a : Tree) (n : ℕ) → ShiftStep a (Shift side a n) (node (Mark (mark_of_shift side)) ∷ plain (Num n) ∷ [])
 shift_step_of side a n = record {
   first = side;
   front = node (Mark (mark_of_shift side)) ∷ [];
@@ -115,10 +115,10 @@ one_more : {A : Type 0} {Step : A → A → List Cell → Type 0} {a x y : A} {v
 one_more {Step = Step} {a = a} {y = y} {us = us} ends s = subst (Steps Step a y) (append-nil us) (goes us [] s ends)
 one_more {Step = Step} {a = a} {y = y} {us = us} (goes ws vs t g) s = subst (Steps Step a y) (sym (append_assoc ws vs us)) (goes ws (vs ++ us) t (one_more g s))
 
-nothing_more : {A : Type 0} {G : A → List Cell → Type 0} {Step : A → A → List Cell → Type 0} {e : A} {w : List Cell} → G e w → Seq G (Steps Step) e w
+pub nothing_more : {A : Type 0} {G : A → List Cell → Type 0} {Step : A → A → List Cell → Type 0} {e : A} {w : List Cell} → G e w → Seq G (Steps Step) e w
 nothing_more {e = e} {w = w} s = record { first = e; front = w; back = []; spelled = s; then_spelled = ends; whole = sym (append-nil w) }
 
-seq_more : {A : Type 0} {G : A → List Cell → Type 0} {Step : A → A → List Cell → Type 0} {a b : A} {ts us : List Cell} → Seq G (Steps Step) a ts → Step a b us → Seq G (Steps Step) b (ts ++ us)
+pub seq_more : {A : Type 0} {G : A → List Cell → Type 0} {Step : A → A → List Cell → Type 0} {a b : A} {ts us : List Cell} → Seq G (Steps Step) a ts → Step a b us → Seq G (Steps Step) b (ts ++ us)
 seq_more {us = us} s t = record {
   first = s.first;
   front = s.front;
@@ -158,12 +158,12 @@ row_like l d ts h = record {
 
 -- What may follow a step, or what stands before one.
 
-step_stops : {l : Level} {d : ℕ} {a e : Tree} (v : List Cell) (c : List Token) → RowStep l d a e v → Stops (tighter l) (tokens_of v ++ c)
+pub step_stops : {l : Level} {d : ℕ} {a e : Tree} (v : List Cell) (c : List Token) → RowStep l d a e v → Stops (tighter l) (tokens_of v ++ c)
 step_stops {l = l} v c s =
     let k = row_step s in
     subst (λ m. Stops (tighter m) (tokens_of v ++ c)) k.at_level (subst (λ cs. Stops (tighter (level_of k.op)) (tokens_of cs ++ c)) (sym k.whole) (stops_operator k.op (tokens_of k.us ++ c)))
 
-stops_append : (l : Level) (us vs : List Cell) (c : List Token) → ((more : List Token) → Stops l (tokens_of us ++ more)) → Stops l (tokens_of (us ++ vs) ++ c)
+pub stops_append : (l : Level) (us vs : List Cell) (c : List Token) → ((more : List Token) → Stops l (tokens_of us ++ more)) → Stops l (tokens_of (us ++ vs) ++ c)
 stops_append l us vs c h = subst (Stops l) (sym (tokens_append us vs c)) (h (tokens_of vs ++ c))
 
 row_follows : {l : Level} {d : ℕ} (a e : Tree) (v : List Cell) (c : List Token) → Steps (RowStep l d) a e v → Stops l c → Stops (tighter l) (tokens_of v ++ c)
@@ -229,7 +229,7 @@ pub row_fails : (l : Level) (d : ℕ) (ts rest behind : List Token) (a : Tree) (
 row_fails l d ts rest behind a op before now mid after stop e h n loop f =
     loop_fails (λ c s. operator_goes_on l op c rest behind h e s) (step_fits l d a) loop (fails_step l d a op rest behind now mid after stop e h n f)
 
-no_step : (l : Level) (d : ℕ) (rest : List Token) (a b : Tree) (us : List Cell) (c : List Token) → ((op : BinOp) → level_of op ≡ l → head rest ≢ Some (Mark (mark_of op))) → RowStep l d a b us → head (tokens_of us ++ c) ≢ head rest
+pub no_step : (l : Level) (d : ℕ) (rest : List Token) (a b : Tree) (us : List Cell) (c : List Token) → ((op : BinOp) → level_of op ≡ l → head rest ≢ Some (Mark (mark_of op))) → RowStep l d a b us → head (tokens_of us ++ c) ≢ head rest
 no_step l d rest a b us c h s e = let k = row_step s in h k.op k.at_level (sym e ∙ ap (λ cs. head (tokens_of cs ++ c)) k.whole)
 
 pub row_ends : (l : Level) (d : ℕ) (ts rest : List Token) (a : Tree) (before now : List Begun) → ((op : BinOp) → level_of op ≡ l → head rest ≢ Some (Mark (mark_of op))) → RowUpTo l d ts rest a before now → Found (SpellsExpr l d) (Stops l) ts a rest before now
