@@ -80,7 +80,7 @@ pub enum Side {
 
 /// An expression. The number of a `Shift` is its amount in bits, and a `Look` has a table's name and
 /// the index of its entry.
-#[derive(Debug, Drop)]
+#[derive(Debug)]
 pub enum Expr {
     Const(Lit),
     Name(Text),
@@ -90,6 +90,23 @@ pub enum Expr {
     If(Box<Expr>, Box<Expr>, Box<Expr>),
     Convert(Ty, Box<Expr>),
     Look(Text, Box<Expr>),
+}
+
+// A row of operators is as deep as it is long, so its left operands are let go in a loop.
+impl Drop for Expr {
+    fn drop(mut self) {
+        loop {
+            match self {
+                Expr::Const(_) | Expr::Name(_) => return,
+                Expr::Unary(_, inner) => self = Box::into_inner(inner),
+                Expr::Binary(_, left, _right) => self = Box::into_inner(left),
+                Expr::Shift(_, left, _) => self = Box::into_inner(left),
+                Expr::If(_condition, _yes, no) => self = Box::into_inner(no),
+                Expr::Convert(_, inner) => self = Box::into_inner(inner),
+                Expr::Look(_, index) => self = Box::into_inner(index),
+            }
+        }
+    }
 }
 
 /// An event, the name of its source, and its priority. A larger number is more urgent.
