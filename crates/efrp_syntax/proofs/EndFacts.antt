@@ -1,5 +1,5 @@
 -- Marks of operators, and what may follow an expression.
-use Rattle.std.proofs.Common.{◌≡◌, ◌≢◌, ℕ, ◌+◌, ◌<◌, ◌≤◌, Bool, true, false, ◌==◌, List, [], ◌∷◌, ◌++◌, Option, Some, None, ◌⊎◌, inl, inr, get_or, refl, sym, ap, subst, ◌∙◌, arith}
+use Rattle.std.proofs.Common.{◌≡◌, ◌≢◌, ℕ, ◌<◌, ◌≤◌, true, false, ◌==◌, List, [], ◌∷◌, Option, Some, None, ◌⊎◌, inl, inr, get_or, refl, sym, ap, subst, ◌∙◌, arith}
 use Rattle.std.proofs.lemmas.Bool.{false≢true}
 use Rattle.frp_tree.specs.declared.syntax.BinOp.{BinOp}
 use Rattle.frp_tree.specs.declared.syntax.BinOp.TheVariants as binary
@@ -9,7 +9,7 @@ use Rattle.frp_tree.specs.declared.levels.Level.{Level}
 use Rattle.frp_tree.specs.declared.levels.Level.TheVariants as level
 use Rattle.frp_tree.specs.declared.marks.TheConstants as mark
 use Rattle.frp_tree.specs.declared.tokens.Token.{Token}
-use Rattle.frp_tree.specs.declared.tokens.Token.TheVariants.{Word, Num, Wide, Mark}
+use Rattle.frp_tree.specs.declared.tokens.Token.TheVariants.{Word, Mark}
 use Rattle.frp_tree.specs.Levels.{tighter, is_operand, repeats, level_of, mark_of, mark_of_shift}
 use Rattle.efrp_syntax.specs.Answers.{head}
 use Rattle.efrp_syntax.specs.Expressions.{looseness, Stops, is_row}

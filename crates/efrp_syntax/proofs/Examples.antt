@@ -1,2 +1,3 @@
--- Texts and their tokens, computed.
+-- Texts and their tokens, computed; and what may follow an expression.
+pub mod Expressions
 pub mod Tokens

@@ -1,5 +1,5 @@
 -- What the exits of the readers of operands and of `if` answer.
-use Rattle.std.proofs.Common.{◌≡◌, ◌≢◌, ℕ, suc, Bool, true, false, List, [], ◌∷◌, ◌++◌, length, codes, Some, refl, sym, ap, subst, ◌∙◌}
+use Rattle.std.proofs.Common.{◌≡◌, ℕ, suc, false, List, [], ◌∷◌, ◌++◌, codes, refl, sym, ap, subst, ◌∙◌}
 use Rattle.frp_tree.specs.declared.syntax.Ty.{Ty}
 use Rattle.frp_tree.specs.declared.syntax.Lit.{Lit}
 use Rattle.frp_tree.specs.declared.syntax.Lit.TheVariants as lit
@@ -10,19 +10,18 @@ use Rattle.frp_tree.specs.declared.marks.TheConstants as mark
 use Rattle.frp_tree.specs.declared.tokens.Token.{Token}
 use Rattle.frp_tree.specs.declared.tokens.Token.TheVariants.{Word, Num, Mark}
 use Rattle.frp_tree.specs.Names.{type_name, is_keyword}
-use Rattle.frp_tree.specs.Limits.{is_number_type}
 use Rattle.frp_tree.specs.Levels.{mark_of_sign}
 use Rattle.frp_tree.specs.Tree.{Tree, Const, Name, Unary, If, Convert, Look}
-use Rattle.frp_tree.specs.Cells.{Cell, plain, node, opening_node, opening, tokens_of, literal_token}
+use Rattle.frp_tree.specs.Cells.{Cell, node, opening_node, opening, tokens_of, literal_token}
 use Rattle.frp_tree.specs.Grammar.{SpellsExpr, word, sign}
 use Rattle.efrp_syntax.specs.declared.begun.Begun.{Begun}
 use Rattle.efrp_syntax.specs.declared.begun.Stop.{Stop}
-use Rattle.efrp_syntax.specs.Answers.{head, Found, Fails, Anything, One, Tok, Done, Seq, Example, Fits, Like}
+use Rattle.efrp_syntax.specs.Answers.{Found, Fails, Anything, One, Tok, Done, Seq, Example, Fits}
 use Rattle.efrp_syntax.specs.Expressions.{Stops, NameEnd, alone as no_index}
-use Rattle.efrp_syntax.proofs.PhraseLaws.{found_next, fails_first, fails_next, found_like, fails_like, found_done}
-use Rattle.efrp_syntax.proofs.EndFacts.{operator_at, stops_mark, stops_word}
+use Rattle.efrp_syntax.proofs.PhraseLaws.{found_next, fails_first, fails_next, found_done}
+use Rattle.efrp_syntax.proofs.EndFacts.{stops_mark, stops_word}
 use Rattle.efrp_syntax.proofs.RowFacts.{example}
-use Rattle.efrp_syntax.proofs.OperandFacts.{Literals, Named, Closed, Bracketed, Signed, Converted, Indexed, Else, Then, Chosen, seq, tok, finished, ended, literal_like, named_like, bracketed_like, signed_like, converted_like, indexed_like, plain_like, choice_like}
+use Rattle.efrp_syntax.proofs.OperandFacts.{Closed, Else, Then, seq, tok, finished}
 
 -- What fits behind what.
 
@@ -49,9 +48,6 @@ then_tok cell x = record { value = x.value; cells = cell ∷ x.cells; spelled = 
 
 done_example : {A : Type 0} (x : A) → Example (Done x)
 done_example x = record { value = x; cells = []; spelled = finished x }
-
-zero : Tree
-zero = Const (lit.Plain 0)
 
 expr_then : {B : Type 0} {K : Tree → B → List Cell → Type 0} (l : Level) (d : ℕ) → Example (K (Const (lit.Plain 0))) → Example (Seq (SpellsExpr l d) K)
 expr_then l d x = record { value = x.value; cells = node (Num 0) ∷ x.cells; spelled = seq (Const (lit.Plain 0)) (node (Num 0) ∷ []) x.cells (example l d) x.spelled }

@@ -1,7 +1,7 @@
 -- The rules of operands and of `if`: each as a kind of phrase that its first token chooses.
-use Rattle.std.proofs.Common.{◌≡◌, ◌≢◌, ℕ, suc, ◌+◌, ◌<◌, ◌≤◌, Bool, true, false, ◌==◌, List, [], ◌∷◌, ◌++◌, length, get_or, codes, Option, Some, None, refl, sym, ap, subst, ◌∙◌, arith, eq-eqb}
+use Rattle.std.proofs.Common.{◌≡◌, ◌≢◌, ℕ, suc, true, false, ◌==◌, List, [], ◌∷◌, ◌++◌, length, get_or, codes, Some, None, refl, sym, ap, subst, ◌∙◌, eq-eqb}
 use Rattle.std.proofs.lemmas.Bool.{false≢true}
-use Rattle.std.proofs.lemmas.List.{append-nil, append_assoc}
+use Rattle.std.proofs.lemmas.List.{append-nil}
 use Rattle.frp_tree.specs.declared.syntax.Ty.{Ty}
 use Rattle.frp_tree.specs.declared.syntax.Ty.TheVariants as ty
 use Rattle.frp_tree.specs.declared.syntax.Lit.{Lit}
@@ -17,17 +17,16 @@ use Rattle.frp_tree.specs.declared.tokens.Token.{Token}
 use Rattle.frp_tree.specs.declared.tokens.Token.TheVariants.{Word, Num, Wide, Mark}
 use Rattle.frp_tree.specs.Names.{type_name, is_keyword}
 use Rattle.frp_tree.specs.Limits.{is_number_type}
-use Rattle.frp_tree.specs.Levels.{tighter, is_operand, level_of, mark_of, mark_of_shift, mark_of_sign}
+use Rattle.frp_tree.specs.Levels.{tighter, level_of, mark_of, mark_of_shift, mark_of_sign}
 use Rattle.frp_tree.specs.Tree.{Tree, Const, Name, Unary, If, Convert, Look}
 use Rattle.frp_tree.specs.Cells.{Cell, plain, node, opening_node, opening, tokens_of, literal_token}
 use Rattle.frp_tree.specs.Grammar.{SpellsExpr, literal, named, looked, brackets, signed, converted, chosen, shifted, joined, compared, alone, word, sign}
 use Rattle.efrp_syntax.specs.declared.begun.Begun.{Begun}
-use Rattle.efrp_syntax.specs.declared.begun.Stop.{Stop}
 use Rattle.efrp_syntax.specs.declared.begun.Stop.TheVariants.{Unexpected}
-use Rattle.efrp_syntax.specs.Answers.{head, Found, Fails, odd, Anything, One, Tok, Done, Seq, Example, Fits, Like}
+use Rattle.efrp_syntax.specs.Answers.{head, Fails, odd, One, Tok, Done, Seq, Like}
 use Rattle.efrp_syntax.specs.Expressions.{Stops, NameEnd, alone as no_index, index, IsNoOperand}
-use Rattle.efrp_syntax.proofs.PhraseLaws.{tokens_append, found_next, fails_first, fails_next, found_like, fails_like, found_done}
-use Rattle.efrp_syntax.proofs.EndFacts.{stops_mark, stops_word, stops_tighter}
+use Rattle.efrp_syntax.proofs.PhraseLaws.{tokens_append}
+use Rattle.efrp_syntax.proofs.EndFacts.{stops_tighter}
 use Rattle.efrp_syntax.proofs.RowFacts.{example}
 
 -- Tokens that differ.
@@ -62,9 +61,6 @@ type_keyword ty.U8 = refl
 type_keyword ty.U16 = refl
 
 -- The first byte tells `if` from the names of types, and both from `true` and `false`.
-first_byte : List ℕ → ℕ
-first_byte x = get_or x 0 0
-
 words_differ : (x y : List ℕ) (a b : ℕ) → get_or x 0 0 ≡ a → get_or y 0 0 ≡ b → (a == b) ≡ false → Some (Word x) ≡ Some (Word y) → ⊥
 words_differ x y a b p q n e =
     let same : a ≡ b = sym p ∙ ap (λ z. get_or z 0 0) (word_of e) ∙ q in

@@ -1,6 +1,5 @@
 -- The laws on kinds of phrases: what comes of the parts of a phrase comes of the whole.
-use Rattle.std.proofs.Common.{◌≡◌, ◌≢◌, ℕ, ◌+◌, ◌<◌, ◌≤◌, List, [], ◌∷◌, ◌++◌, length, map, Option, Some, None, Result, Ok, Err, refl, sym, ap, subst, ◌∙◌, arith}
-use Rattle.std.specs.List.{AllByRecursion}
+use Rattle.std.proofs.Common.{◌≡◌, ◌≢◌, ℕ, ◌+◌, ◌<◌, ◌≤◌, List, [], ◌∷◌, ◌++◌, length, map, Some, Result, Ok, Err, refl, sym, ap, subst, ◌∙◌, arith}
 use Rattle.std.specs.Borrow.{Bor}
 use Rattle.std.specs.Result.{IsErrAnd}
 use Rattle.std.proofs.lemmas.Result.{err_from_is_err_and}
@@ -11,7 +10,7 @@ use Rattle.frp_tree.specs.Cells.{Cell, tokens_of}
 use Rattle.efrp_syntax.specs.declared.begun.Begun.{Begun}
 use Rattle.efrp_syntax.specs.declared.begun.Stop.{Stop}
 use Rattle.efrp_syntax.specs.declared.begun.Stop.TheVariants.{Unexpected, TooDeep, Memory}
-use Rattle.efrp_syntax.specs.Answers.{Answers, Passes, head, begun, IsShallow, Found, Why, Odd, Deep, IsDeepAt, IsDeepNext, Next, Bad, Stuck, Fails, odd, deep, memory, One, Tok, Done, Seq, Example, Fits, Like}
+use Rattle.efrp_syntax.specs.Answers.{Answers, Passes, head, begun, IsShallow, Found, Why, Odd, Deep, IsDeepAt, Next, Bad, Stuck, Fails, odd, deep, memory, One, Tok, Done, Seq, Fits, Like}
 
 -- Lists of cells and of tokens.
 

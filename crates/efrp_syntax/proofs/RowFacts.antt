@@ -1,28 +1,26 @@
 -- Operators in a row: an expression of a level is one of the next tighter and then steps, each an operator with its right operand.
-use Rattle.std.proofs.Common.{◌≡◌, ◌≢◌, ℕ, ◌+◌, ◌<◌, ◌≤◌, Bool, true, false, List, [], ◌∷◌, ◌++◌, Some, refl, sym, ap, subst, ◌∙◌, arith}
+use Rattle.std.proofs.Common.{◌≡◌, ◌≢◌, ℕ, true, List, [], ◌∷◌, ◌++◌, Some, refl, sym, ap, subst, ◌∙◌, arith}
 use Rattle.std.proofs.lemmas.Bool.{false≢true}
 use Rattle.std.proofs.lemmas.List.{append-nil, append_assoc}
-use Rattle.frp_tree.specs.declared.kinds.Kind.TheVariants.{Nodes}
 use Rattle.frp_tree.specs.declared.syntax.Lit.TheVariants as lit
 use Rattle.frp_tree.specs.declared.syntax.BinOp.{BinOp}
 use Rattle.frp_tree.specs.declared.syntax.Side.{Side}
-use Rattle.frp_tree.specs.declared.syntax.Side.TheVariants.{Left}
 use Rattle.frp_tree.specs.declared.levels.Level.{Level}
 use Rattle.frp_tree.specs.declared.levels.Level.TheVariants as level
 use Rattle.frp_tree.specs.declared.tokens.Token.{Token}
-use Rattle.frp_tree.specs.declared.tokens.Token.TheVariants.{Word, Num, Mark}
-use Rattle.frp_tree.specs.Levels.{tighter, is_operand, repeats, level_of, mark_of, mark_of_shift}
+use Rattle.frp_tree.specs.declared.tokens.Token.TheVariants.{Num, Mark}
+use Rattle.frp_tree.specs.Levels.{tighter, repeats, level_of, mark_of, mark_of_shift}
 use Rattle.frp_tree.specs.Tree.{Tree, Const, Binary, Shift}
 use Rattle.frp_tree.specs.Cells.{Cell, plain, node, tokens_of}
 use Rattle.frp_tree.specs.Grammar.{SpellsExpr, literal, named, looked, brackets, signed, converted, chosen, shifted, joined, compared, alone}
 use Rattle.efrp_syntax.specs.declared.begun.Begun.{Begun}
 use Rattle.efrp_syntax.specs.declared.begun.Stop.{Stop}
 use Rattle.efrp_syntax.specs.declared.begun.TheConstants.{NODE}
-use Rattle.efrp_syntax.specs.Answers.{head, begun, Found, Fails, Anything, One, Done, Seq, Example, Fits, Like}
+use Rattle.efrp_syntax.specs.Answers.{head, Found, Fails, Anything, One, Done, Seq, Fits, Like}
 use Rattle.efrp_syntax.specs.Expressions.{Stops, is_row}
-use Rattle.efrp_syntax.proofs.PhraseLaws.{tokens_append, found_next, fails_first, fails_next, found_like, fails_like, found_done, found_one}
+use Rattle.efrp_syntax.proofs.PhraseLaws.{tokens_append, found_next, fails_first, fails_next, fails_like, found_done, found_one}
 use Rattle.efrp_syntax.proofs.LoopLaws.{Steps, ends, goes, IsUpTo, loop_starts, loop_goes, loop_fails, loop_ends}
-use Rattle.efrp_syntax.proofs.EndFacts.{same_operator, same_shift, stops_tighter, stops_operator, stops_shift, operator_goes_on, shift_goes_on, row_repeats, row_no_operand}
+use Rattle.efrp_syntax.proofs.EndFacts.{same_operator, stops_tighter, stops_operator, operator_goes_on, row_repeats, row_no_operand}
 
 -- Some expression of each level.
 pub example : (l : Level) (d : ℕ) → SpellsExpr l d (Const (lit.Plain 0)) (node (Num 0) ∷ [])

@@ -1,5 +1,5 @@
 -- Shifts in a row: an expression and then steps, each a shift with its amount.
-use Rattle.std.proofs.Common.{◌≡◌, ◌≢◌, ℕ, ◌≤◌, true, false, List, [], ◌∷◌, ◌++◌, Some, refl, sym, ap, subst, ◌∙◌, arith}
+use Rattle.std.proofs.Common.{◌≡◌, ◌≢◌, ℕ, List, [], ◌∷◌, ◌++◌, Some, refl, sym, ap, subst, ◌∙◌, arith}
 use Rattle.std.proofs.lemmas.List.{append-nil, append_assoc}
 use Rattle.frp_tree.specs.declared.syntax.BinOp.{BinOp}
 use Rattle.frp_tree.specs.declared.syntax.BinOp.TheVariants as binary
@@ -15,9 +15,9 @@ use Rattle.frp_tree.specs.Grammar.{SpellsExpr, literal, named, looked, brackets,
 use Rattle.efrp_syntax.specs.declared.begun.Begun.{Begun}
 use Rattle.efrp_syntax.specs.declared.begun.Stop.{Stop}
 use Rattle.efrp_syntax.specs.declared.begun.TheConstants.{NODE}
-use Rattle.efrp_syntax.specs.Answers.{head, Found, Fails, Anything, One, Done, Seq, Fits, Like}
+use Rattle.efrp_syntax.specs.Answers.{head, Found, Fails, Anything, Done, Seq, Fits, Like}
 use Rattle.efrp_syntax.specs.Expressions.{Stops}
-use Rattle.efrp_syntax.proofs.PhraseLaws.{found_next, fails_first, fails_next, found_done, found_one, found_like, fails_like}
+use Rattle.efrp_syntax.proofs.PhraseLaws.{found_next, fails_first, fails_next, found_done, found_one, fails_like}
 use Rattle.efrp_syntax.proofs.LoopLaws.{Steps, ends, goes, IsUpTo, loop_starts, loop_goes, loop_fails, loop_ends}
 use Rattle.efrp_syntax.proofs.EndFacts.{same_shift, stops_tighter, stops_shift, shift_goes_on}
 use Rattle.efrp_syntax.proofs.RowFacts.{SideOf, Amount, ShiftStep, shift_step, shift_step_of, seq_more, nothing_more, stops_append}

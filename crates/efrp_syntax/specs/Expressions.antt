@@ -9,7 +9,7 @@ use Rattle.frp_tree.specs.declared.levels.Level.{Level}
 use Rattle.frp_tree.specs.declared.levels.Level.TheVariants.{Whole, Or, And, Comparison, BitOr, BitXor, BitAnd, Shift, Sum, Term, Operand}
 use Rattle.frp_tree.specs.declared.marks.TheConstants as mark
 use Rattle.frp_tree.specs.declared.tokens.Token.{Token}
-use Rattle.frp_tree.specs.declared.tokens.Token.TheVariants.{Word, Num, Mark}
+use Rattle.frp_tree.specs.declared.tokens.Token.TheVariants.{Word, Mark}
 use Rattle.frp_tree.specs.Names.{type_name, is_keyword}
 use Rattle.frp_tree.specs.Limits.{is_number_type}
 use Rattle.frp_tree.specs.Levels.{level_of, mark_of, mark_of_shift, mark_of_sign}

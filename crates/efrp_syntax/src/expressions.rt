@@ -1,21 +1,19 @@
 // The reader of expressions. Recursion is as deep as the nesting; a row of operators is a loop.
-ghost use Rattle.std.specs.Prelude.{◌≡◌, ◌≢◌, ◌<◌, ◌≤◌, ◌+◌, suc, ℕ, length, List as Items, true, false, [], ◌∷◌, Some, None, MatchOption, IfOk, OnOk, codes};
-ghost use Rattle.frp_tree.specs.Cells.{literal_token};
+ghost use Rattle.std.specs.Prelude.{◌≡◌, ◌≢◌, ◌<◌, ◌≤◌, suc, ℕ, length, List as Items, true, ◌∷◌, Some, MatchOption, IfOk, OnOk, codes};
 ghost use Rattle.frp_tree.specs.Grammar.{SpellsExpr};
 ghost use Rattle.frp_tree.specs.Levels.{level_of, mark_of, mark_of_shift, mark_of_sign};
 ghost use Rattle.frp_tree.specs.Limits.{is_number_type};
-ghost use Rattle.frp_tree.specs.Names.{type_name, is_keyword};
+ghost use Rattle.frp_tree.specs.Names.{type_name};
 ghost use Rattle.frp_tree.specs.Tree.{tree_of};
 ghost use Rattle.frp_tree.specs.declared.levels.Level.TheVariants as level;
 ghost use Rattle.frp_tree.specs.declared.marks.TheConstants as mark;
-ghost use Rattle.frp_tree.specs.declared.limits.TheConstants.{DEEPEST_NESTING};
 ghost use Rattle.frp_tree.specs.declared.syntax.BinOp.{BinOp as BinOps};
 ghost use Rattle.frp_tree.specs.declared.syntax.Side.{Side as Sides};
 ghost use Rattle.frp_tree.specs.declared.syntax.Ty.{Ty as Types};
 ghost use Rattle.frp_tree.specs.declared.syntax.UnOp.{UnOp as UnOps};
-ghost use Rattle.efrp_syntax.specs.declared.expressions.Start.TheVariants as start;
 ghost use Rattle.frp_tree.specs.declared.tokens.Token.{Token as Tokens};
 ghost use Rattle.frp_tree.specs.declared.tokens.Token.TheVariants as token;
+ghost use Rattle.efrp_syntax.specs.declared.expressions.Start.TheVariants as start;
 ghost use Rattle.efrp_syntax.specs.Answers.{head, opened, Answers, Passes, Anything, Tok};
 ghost use Rattle.efrp_syntax.specs.Expressions.{Stops, NameEnd, Begins, is_row};
 

@@ -1,4 +1,4 @@
-use Rattle.std.proofs.Common.{suc, add-one, codes, length, ap, arith}
+use Rattle.std.proofs.Common.{add-one, codes, length, ap, arith}
 use Rattle.frp_tree.specs.declared.levels.Level.TheVariants as level
 use Rattle.frp_tree.specs.declared.marks.TheConstants as mark
 use Rattle.frp_tree.specs.declared.tokens.Token.TheVariants.{Word, Mark}

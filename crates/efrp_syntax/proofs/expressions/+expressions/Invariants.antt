@@ -1,4 +1,4 @@
-use Rattle.std.proofs.Common.{ℕ, ◌+◌, ◌*◌, ◌≤◌, length}
+use Rattle.std.proofs.Common.{◌+◌, ◌*◌, ◌≤◌, length}
 use Rattle.frp_tree.specs.Tree.{tree_of}
 use Rattle.efrp_syntax.specs.Expressions.{looseness}
 use Rattle.efrp_syntax.proofs.RowFacts.{RowUpTo}

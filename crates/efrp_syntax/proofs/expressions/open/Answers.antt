@@ -1,7 +1,6 @@
 use Rattle.std.proofs.Common.{suc, arith}
 use Rattle.efrp_syntax.specs.Answers.{opened, Anything}
 use Rattle.efrp_syntax.proofs.PhraseLaws.{deep_tok, passes_out_of_memory}
-use Rattle.efrp_syntax.proofs.LoopLaws.{loop_ends}
 use Rattle.efrp_syntax.proofs.expressions.open.Goals as goal
 
 pub returns-then-nesting-ge-DEEPEST_NESTING-clause-answer : goal.returns-then-nesting-ge-DEEPEST_NESTING-clause-answer
