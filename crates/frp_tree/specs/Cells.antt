@@ -1,5 +1,5 @@
 -- The tokens of a program, each with what it opens and begins.
-use Rattle.std.specs.Prelude.{◌≡◌, ℕ, ◌+◌, ◌≤◌, Bool, true, false, List, [], ◌∷◌, codes, count_by, map, Option, Some, None}
+use Rattle.std.specs.Prelude.{ℕ, ◌≤◌, Bool, true, false, List, codes, count_by, map, Option, Some, None}
 use Rattle.std.specs.List.{AllByRecursion}
 use Rattle.frp_tree.specs.declared.kinds.Kind.{Kind}
 use Rattle.frp_tree.specs.declared.kinds.Kind.TheVariants.{Events, Setups, Definitions, Outputs, Nodes, Entries}
@@ -7,7 +7,7 @@ use Rattle.frp_tree.specs.declared.limits.TheConstants.{DEEPEST_NESTING, MOST_EN
 use Rattle.frp_tree.specs.declared.syntax.Lit.{Lit}
 use Rattle.frp_tree.specs.declared.syntax.Lit.TheVariants as lit
 use Rattle.frp_tree.specs.declared.tokens.Token.{Token}
-use Rattle.frp_tree.specs.declared.tokens.Token.TheVariants.{Word, Num, Wide, Mark}
+use Rattle.frp_tree.specs.declared.tokens.Token.TheVariants.{Word, Num, Wide}
 use Rattle.frp_tree.specs.Limits.{most}
 
 -- A token; the nesting that it opens, or 0; the kind of what it begins, if it begins something that is counted; and, where

@@ -1,5 +1,5 @@
 -- Trees of some texts, and how far the prefix of one goes, by the grammar.
-use Rattle.std.specs.Prelude.{◌≡◌, ℕ, List, [], ◌∷◌, ◌++◌, codes, true, false, refl}
+use Rattle.std.specs.Prelude.{◌≡◌, ℕ, List, [], ◌∷◌, codes, true, refl}
 use Rattle.frp_tree.specs.declared.kinds.Kind.TheVariants.{Definitions, Nodes}
 use Rattle.frp_tree.specs.declared.syntax.Ty.TheVariants as ty
 use Rattle.frp_tree.specs.declared.syntax.Lit.TheVariants as lit
@@ -8,11 +8,10 @@ use Rattle.frp_tree.specs.declared.syntax.BinOp.TheVariants as binary
 use Rattle.frp_tree.specs.declared.syntax.Side.TheVariants.{Left}
 use Rattle.frp_tree.specs.declared.levels.Level.TheVariants as level
 use Rattle.frp_tree.specs.declared.marks.TheConstants as mark
-use Rattle.frp_tree.specs.declared.tokens.Token.{Token}
 use Rattle.frp_tree.specs.declared.tokens.Token.TheVariants.{Word, Num, Wide, Mark}
-use Rattle.frp_tree.specs.Tree.{Tree, Const, Name, Unary, Binary, Shift, If, Convert, Look, ClauseTree, Plain, Input, Table, Reactive, DeclTree, ProgramTree}
-use Rattle.frp_tree.specs.Cells.{Cell, plain, starting, node, opening_node, opening, entry_cell, tokens_of, count_of}
-use Rattle.frp_tree.specs.Grammar.{SpellsExpr, literal, named, looked, brackets, signed, converted, chosen, shifted, joined, compared, alone, Row, none, next, SpellsClause, SpellsBehaviour, plainly, table, reactive, SpellsDecl, SpellsProgram, HasTree}
+use Rattle.frp_tree.specs.Tree.{Tree, Const, Name, Unary, Binary, Shift, If, Convert, Look, Table}
+use Rattle.frp_tree.specs.Cells.{Cell, plain, starting, node, opening_node, opening, entry_cell, count_of}
+use Rattle.frp_tree.specs.Grammar.{SpellsExpr, literal, named, looked, brackets, signed, converted, chosen, shifted, joined, compared, alone, none, SpellsClause, table, SpellsDecl, HasTree}
 
 abbrev a : List ℕ
 a = codes "a"
