@@ -103,7 +103,7 @@ pub lexed_only : (text : List ℕ) (result : Result (List Token) SyntaxFault) �
 lexed_only text (Ok tokens) h = λ others k. one_list text tokens others h k
 lexed_only text (Err fault) h = tt
 
-fault_none : (text : List ℕ) (fault : SyntaxFault) (others : List Token) → Lexed text (Err fault) → HasTokens text others → fault ≡ Memory
+pub fault_none : (text : List ℕ) (fault : SyntaxFault) (others : List Token) → Lexed text (Err fault) → HasTokens text others → fault ≡ Memory
 fault_none text (BadByte p) others h k = absurd (bad_none text p others h.1 k)
 fault_none text (TooBig p) others (inl h) k = absurd (omega (arith, h.0, k.0))
 fault_none text (TooBig p) others (inr h) k = absurd (big_none text p others h.1 k)
@@ -118,7 +118,7 @@ lexed_none text (Err fault) h others k = fault_none text fault others h k
 
 -- A text has at most one fault.
 
-one_fault : (text : List ℕ) (fault told : SyntaxFault) → fault ≢ Memory → Lexed text (Err fault) → Lexed text (Err told) → (told ≡ fault) ⊎ (told ≡ Memory)
+pub one_fault : (text : List ℕ) (fault told : SyntaxFault) → fault ≢ Memory → Lexed text (Err fault) → Lexed text (Err told) → (told ≡ fault) ⊎ (told ≡ Memory)
 one_fault text fault Memory m h k = inr refl
 one_fault text Memory told m h k = absurd (m refl)
 one_fault text (BadByte p) (BadByte q) m h k = inl (ap BadByte (one_bad text q p k.1 h.1))

@@ -1,5 +1,7 @@
 pub mod Answers
 pub mod Expressions
+pub mod Items
 pub mod Lexed
 pub mod Parsed
 pub mod Pieces
+pub mod Programs

@@ -1,6 +1,4 @@
 // What a token begins, and why a reader of tokens stops.
-ghost use Rattle.std.specs.Prelude.{◌≡◌, Some};
-
 use frp_tree::Kind;
 use std::alloc::{AllocError, AllocFailed};
 
@@ -9,7 +7,7 @@ use std::alloc::{AllocError, AllocFailed};
 #[derive(Clone, Copy, Debug, PartialEq, Eq)]
 pub struct Begun {
     pub kind: Option<Kind>,
-    pub entry: u32,
+    pub entry: usize,
 }
 
 /// Nothing that is counted.
@@ -23,28 +21,6 @@ pub const NODE: Begun = Begun {
     kind: Some(Kind::Nodes),
     entry: 0,
 };
-
-impl Begun {
-    /// One of this kind, and no entry. Takes no memory.
-    pub fn one(kind: Kind) -> Begun
-        ensures { result ≡ record { kind = Some kind; entry = 0 } }
-    {
-        Begun {
-            kind: Some(kind),
-            entry: 0,
-        }
-    }
-
-    /// The entry of this number in its table. Takes no memory.
-    pub fn entry(number: u32) -> Begun
-        ensures { result ≡ record { kind = Some Kind.Entries; entry = number } }
-    {
-        Begun {
-            kind: Some(Kind::Entries),
-            entry: number,
-        }
-    }
-}
 
 /// Why a reader of tokens stops. The number is how many tokens are left, from the one on at which it stops.
 #[derive(Clone, Copy, Debug, PartialEq, Eq)]

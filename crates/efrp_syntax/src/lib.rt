@@ -6,18 +6,25 @@
 
 mod begun;
 mod classes;
+mod counts;
+mod definitions;
 mod expressions;
 mod faults;
+mod items;
 mod keywords;
 mod laws;
 mod lexer;
 mod marks;
 mod numbers;
+mod parser;
 mod prefixes;
+mod programs;
 mod readers;
+mod starts;
 
 pub use faults::SyntaxFault;
 pub use frp_tree::{Kind, Token};
 pub use keywords::is_keyword;
 pub use laws::one_list_of_tokens;
 pub use lexer::lex;
+pub use parser::parse;

@@ -1,0 +1,26 @@
+use Rattle.std.proofs.Common.{codes}
+use Rattle.frp_tree.specs.Grammar.{SpellsSetup}
+use Rattle.efrp_syntax.specs.Items.{StartsWord}
+use Rattle.efrp_syntax.proofs.PhraseLaws.{out_of_memory}
+use Rattle.efrp_syntax.proofs.ItemKinds.{exits, read_start, read_next, read_stop, read_all, read_shorter}
+use Rattle.efrp_syntax.proofs.ItemFacts.{setups_begin}
+use Rattle.efrp_syntax.proofs.items.setups.Goals as goal
+
+pub row-init : goal.row-init
+row-init c = rw (c.new-found.ensures) (read_start SpellsSetup (StartsWord (codes "setup")) _ _)
+
+pub returns-in_err-setup : goal.returns-in_err-setup
+returns-in_err-setup c = exits _ _ _ _ _ _ _ _ c.from_residual.ensures.1 (read_stop _ c.row.invariant c.row-test.ensures c.in_err-setup.ensures)
+
+pub returns-in_err-push : goal.returns-in_err-push
+returns-in_err-push c = out_of_memory _ _ _ _ _ _ _ c.from_residual-in_err-push.ensures.1
+
+pub row-smaller : goal.row-smaller
+row-smaller c = read_shorter (StartsWord (codes "setup")) setups_begin (λ h. cc) c.in_ok-setup.ensures
+
+pub row-preserved : goal.row-preserved
+row-preserved c =
+    rw (c.in_ok-push.ensures.ok) (read_next _ c.row.invariant c.row-test.ensures c.in_ok-setup.ensures)
+
+pub returns : goal.returns
+returns c = read_all setups_begin c.row.invariant c.row-test.ensures
