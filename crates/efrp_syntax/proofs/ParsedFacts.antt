@@ -382,3 +382,22 @@ spelled_exits text result fault h l q s = let p = err_from_is_err_and result h i
 
 pub fault_exits : (text : List ℕ) (result : Result Program SyntaxFault) (told : SyntaxFault) → IsErrAnd result (λ f. f ≡ told) → Lexed text (Err told) → (fault : SyntaxFault) → HasFault text fault → IsSyntaxFault fault result
 fault_exits text result told h l fault f = let p = err_from_is_err_and result h in rw (p.1, p.2) (lexed_one text told l fault f)
+
+-- A text has at most one fault, and none where it spells a program.
+
+fault_told : (text : List ℕ) (told : SyntaxFault) → HasFault text told → (fault : SyntaxFault) → HasFault text fault → (told ≡ fault) ⊎ (told ≡ Memory)
+fault_told text (BadByte n) t fault f = lexed_one text (BadByte n) t fault f
+fault_told text (TooBig n) t fault f = lexed_one text (TooBig n) t fault f
+fault_told text (Unexpected n) t fault f = told_fault text t.0 (Err (Unexpected n)) t.1 t.2 fault f
+fault_told text (TooDeep n) t fault f = told_fault text t.0 (Err (TooDeep n)) t.1 t.2 fault f
+fault_told text (TooMany kind) t fault f = told_fault text t.0 (Err (TooMany kind)) t.1 t.2 fault f
+fault_told text Memory t fault f = absurd t
+
+pub fault_once : (text : List ℕ) (fault other : SyntaxFault) → HasFault text fault → HasFault text other → fault ≡ other
+fault_once text fault other f g = elim (fault_told text fault f other g) [
+  | inl e ↦ e
+  | inr e ↦ absurd (subst (HasFault text) e f)
+]
+
+pub spells_no_fault : (text : List ℕ) (p : ProgramTree) (fault : SyntaxFault) → Spells text p → HasFault text fault → ⊥
+spells_no_fault text p fault s f = let k = token_fault text s.tokens fault s.cut f in k.1 (told_only s.tokens p fault k.0 s.tree)

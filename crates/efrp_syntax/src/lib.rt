@@ -1,7 +1,7 @@
-//! The syntax of source texts: so far the lexer.
+//! The syntax of source texts: the lexer and the parser.
 //!
-//! Contracts see the tokens of a text by the rule of the longest token, and the place of the first byte that
-//! no token, blank or comment begins at. The tool's front end stands on it.
+//! Contracts see the tokens of a text by the rule of the longest token, the program that they spell by the
+//! grammar, and the one fault of a text that spells none. The tool's front end stands on it.
 #![tactic(auto)]
 
 mod begun;
@@ -9,6 +9,7 @@ mod classes;
 mod counts;
 mod definitions;
 mod expressions;
+mod fault_laws;
 mod faults;
 mod items;
 mod keywords;
@@ -22,6 +23,7 @@ mod programs;
 mod readers;
 mod starts;
 
+pub use fault_laws::one_fault;
 pub use faults::SyntaxFault;
 pub use frp_tree::{Kind, Token};
 pub use keywords::is_keyword;
