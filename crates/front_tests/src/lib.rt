@@ -2,4 +2,6 @@
 #![tactic(auto)]
 
 #[cfg(test)]
+mod parse_tests;
+#[cfg(test)]
 mod token_tests;

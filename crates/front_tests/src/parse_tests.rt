@@ -1,0 +1,257 @@
+// Source texts have the trees that their authors mean, and broken ones their first faults.
+use efrp_syntax::{SyntaxFault, parse};
+use frp_tree::{Behaviour, BinOp, Expr, Kind, Lit, Program, Side, Ty};
+use std::alloc::{AllocError, Global};
+use std::test::Fail;
+
+const COUNTER: &str =
+    "event Tick = INT priority 1;\nsetup TRISB = 0;\nlet n : u8 = init 0 in { Tick => n + 1; };\noutput PORTB = n;\n";
+
+const TWO_STATES: &str =
+    "event Tick = INT priority 1; let a : u8 = init 5 in { Tick => a + 1 later; }; let b : u8 = init 0 in { Tick => a; }; output PORTB = a;";
+
+const LATER: &str =
+    "event Go = T0 priority 2; let x : u8 = init 1 in { Go => y + 1 later; }; let y : u8 = init 2 in { Go => x + x; };";
+
+const DIVISION: &str =
+    "event Low = TMR1 priority 1;\nevent High = INT priority 2;\nlet d : u16 = init 3w in { High => d + 2w; };\nlet q : u16 = init 0w in { Low => 60000w / d; };\n";
+
+const CONTROLLER: &str = "event Slow = TMR1 priority 1;
+event Tick = TMR2 priority 3;
+event Up = INT priority 2;
+event Down = CCP1 priority 2;
+setup TRISB = 1;
+setup TRISC = 0;
+setup OPTION_REG = 0xC0;
+setup PR2 = 249;
+setup T2CON = 0x05;
+let goal : u8 = init 0 in {
+  Up => if goal < 250 then goal + 5 else 250;
+  Down => if goal > 5 then goal - 5 else 0; };
+let speed : u8 = init 0 in {
+  Slow => if speed < goal then speed + 1 else if speed > goal then speed - 1 else speed; };
+let phase : u8 = init 0 in { Tick => phase + 1; };
+let duty : bool = phase < speed;
+let runtime : u16 = init 0w in { Slow => runtime + 1w later; };
+output PORTC = if duty then 1 else 0;
+output PORTB = u8(runtime >> 8);
+";
+
+const INPUTS: &str =
+    "event Tick = INT priority 1;\nsetup TRISC = 0;\nlet level : u8 = input PORTB;\nlet top : u8 = init 0 in { Tick => if level > top then level else top; };\noutput PORTC = top;\n";
+
+const TABLES: &str =
+    "event Tick = INT priority 1;\nsetup TRISB = 0;\nlet wave : u8 = table { 0, 10, 30, 60, 100 };\nlet i : u8 = init 0 in { Tick => i + 3; };\noutput PORTB = wave[i];\n";
+
+/// The counter's tokens, and after how many of them it is a program.
+const WORDS: [&str; 34] = [
+    "event", "Tick", "=", "INT", "priority", "1", ";", "setup", "TRISB", "=", "0", ";", "let", "n",
+    ":", "u8", "=", "init", "0", "in", "{", "Tick", "=>", "n", "+", "1", ";", "}", ";", "output",
+    "PORTB", "=", "n", ";",
+];
+
+const WHOLE: [usize; 5] = [0, 7, 12, 29, 34];
+
+/// How many events, setups, definitions and outputs a program has.
+fn sizes(p: &Program) -> (usize, usize, usize, usize) {
+    (
+        p.events.len(),
+        p.setups.len(),
+        p.decls.len(),
+        p.outputs.len(),
+    )
+}
+
+#[test]
+fn worked_sources(rt: HostRuntime) -> Result<(), Fail> {
+    for (text, want) in [
+        (COUNTER, (1, 1, 1, 1)),
+        (TWO_STATES, (1, 0, 2, 1)),
+        (LATER, (1, 0, 2, 0)),
+        (DIVISION, (2, 0, 2, 0)),
+        (CONTROLLER, (4, 5, 5, 2)),
+        (INPUTS, (1, 1, 2, 1)),
+        (TABLES, (1, 1, 2, 1)),
+        ("", (0, 0, 0, 0)),
+    ] {
+        let program = parse(rt.alloc(), text.as_bytes())?;
+        assert!(rt; sizes(&program) == want, "{text}");
+    }
+    Ok(())
+}
+
+/// What a text is refused with.
+fn fault_of(alloc: Global, text: &str) -> Option<SyntaxFault> {
+    parse(alloc, text.as_bytes()).err()
+}
+
+/// The piece this many times, between two texts.
+fn repeated(
+    alloc: Global,
+    front: &str,
+    piece: &str,
+    times: usize,
+    back: &str,
+) -> Result<String, AllocError> {
+    let mut text = String::from_str(alloc, front)?;
+    for _ in 0..times {
+        text.push_str(piece)?;
+    }
+    text.push_str(back)?;
+    Ok(text)
+}
+
+#[test]
+fn faults(rt: HostRuntime) -> Result<(), Fail> {
+    for (text, want) in [
+        ("event @", SyntaxFault::BadByte(6)),
+        ("event Tick TMR1", SyntaxFault::Unexpected(2)),
+        ("event Tick = INT", SyntaxFault::Unexpected(4)),
+        (
+            "event abcdefghijklmnopqrstuvwxyz_01234",
+            SyntaxFault::TooBig(6),
+        ),
+        ("let n : u8 = 1 ) ;", SyntaxFault::Unexpected(6)),
+        ("output P = 1; let n : u8 = 1;", SyntaxFault::Unexpected(5)),
+        ("let n : u8 = a < b < c;", SyntaxFault::Unexpected(8)),
+        ("let t : u8 = table { };", SyntaxFault::Unexpected(7)),
+        ("let n : u8 = bool(1);", SyntaxFault::Unexpected(5)),
+        ("let if : u8 = 1;", SyntaxFault::Unexpected(1)),
+    ] {
+        assert!(rt; fault_of(rt.alloc(), text) == Some(want), "{text}");
+    }
+    Ok(())
+}
+
+#[test]
+fn each_limit(rt: HostRuntime) -> Result<(), Fail> {
+    for (front, piece, times, back, want) in [
+        (
+            "",
+            "event A = B priority 1;",
+            11,
+            "",
+            SyntaxFault::TooMany(Kind::Events),
+        ),
+        (
+            "",
+            "setup A = 1;",
+            32,
+            "",
+            SyntaxFault::TooMany(Kind::Setups),
+        ),
+        (
+            "",
+            "let n : u8 = 1;",
+            128,
+            "",
+            SyntaxFault::TooMany(Kind::Definitions),
+        ),
+        (
+            "",
+            "output A = 1;",
+            5,
+            "",
+            SyntaxFault::TooMany(Kind::Outputs),
+        ),
+        (
+            "let n : u8 = ~1",
+            " + 1",
+            2_047,
+            ";",
+            SyntaxFault::TooMany(Kind::Nodes),
+        ),
+        ("let n : u8 = ", "~", 64, "1;", SyntaxFault::TooDeep(69)),
+        (
+            "let t : u8 = table { 0",
+            ", 0",
+            255,
+            "};",
+            SyntaxFault::TooMany(Kind::Entries),
+        ),
+        (
+            "",
+            "let t : u8 = table { 0,1,2,3,4,5,6,7,8,9,0,1,2,3,4,5,6,7,8,9,0,1,2,3,4,5,6,7,8,9,0,1 };",
+            64,
+            "",
+            SyntaxFault::TooMany(Kind::Entries),
+        ),
+    ] {
+        let alloc = rt.alloc();
+        let within = repeated(alloc, front, piece, times, back)?;
+        assert!(rt; fault_of(alloc, within.as_str()).is_none(), "{piece}");
+        let past = repeated(alloc, front, piece, times + 1, back)?;
+        assert!(rt; fault_of(alloc, past.as_str()) == Some(want), "{piece}");
+    }
+    Ok(())
+}
+
+#[test]
+fn one_past_the_limits(rt: HostRuntime) -> Result<(), Fail> {
+    let alloc = rt.alloc();
+    let mut within = repeated(alloc, "let n : u8 =", "(", 64, "1")?;
+    within.push_str(repeated(alloc, "", ")", 64, ";")?.as_str())?;
+    assert!(rt; fault_of(alloc, within.as_str()).is_none());
+    let past = repeated(alloc, "let n : u8 =", "(", 65, "")?;
+    assert!(rt; fault_of(alloc, past.as_str()) == Some(SyntaxFault::TooDeep(69)));
+    let many = repeated(alloc, "let n : u8 = ~~1", " + 1", 2_047, ";")?;
+    assert!(rt; fault_of(alloc, many.as_str()) == Some(SyntaxFault::TooMany(Kind::Nodes)));
+    Ok(())
+}
+
+#[test]
+fn cut_before_each_token(rt: HostRuntime) -> Result<(), Fail> {
+    let alloc = rt.alloc();
+    let mut text = String::new(alloc);
+    for (n, word) in WORDS.iter().enumerate() {
+        let want = if WHOLE.contains(&n) {
+            None
+        } else {
+            Some(SyntaxFault::Unexpected(n as u32))
+        };
+        assert!(rt; fault_of(alloc, text.as_str()) == want, "{n}");
+        text.push_str(word)?;
+        text.push_str(" ")?;
+    }
+    assert!(rt; fault_of(alloc, text.as_str()).is_none());
+    Ok(())
+}
+
+/// Whether the program's first definition is `x + 1` later, from 1.
+fn adds_one_later(program: &Program) -> bool {
+    match program.decls.get(0) {
+        Some(decl) => match &decl.behaviour {
+            Behaviour::Reactive { init, clauses } => match clauses.get(0) {
+                Some(clause) => {
+                    *init == Lit::Plain(1)
+                        && clause.later
+                        && decl.ty == Ty::U8
+                        && matches!(&clause.expr, Expr::Binary(BinOp::Add, _, _))
+                }
+                None => false,
+            },
+            _ => false,
+        },
+        None => false,
+    }
+}
+
+/// Whether the program's last output is a conversion of a shift by 8.
+fn shows_high_byte(program: &Program) -> bool {
+    match program.outputs.get(1) {
+        Some(output) => match &output.expr {
+            Expr::Convert(Ty::U8, part) => matches!(&**part, Expr::Shift(Side::Right, _, 8)),
+            _ => false,
+        },
+        None => false,
+    }
+}
+
+#[test]
+fn trees(rt: HostRuntime) -> Result<(), Fail> {
+    let later = parse(rt.alloc(), LATER.as_bytes())?;
+    assert!(rt; adds_one_later(&later));
+    let controller = parse(rt.alloc(), CONTROLLER.as_bytes())?;
+    assert!(rt; shows_high_byte(&controller));
+    Ok(())
+}
