@@ -3,4 +3,5 @@ pub mod Grammar
 pub mod Limits
 pub mod Literals
 pub mod Marks
+pub mod Printed
 pub mod Priorities

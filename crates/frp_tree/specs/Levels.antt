@@ -24,6 +24,20 @@ tighter Sum = Term
 tighter Term = Operand
 tighter Operand = Operand
 
+-- How tight a level is: the greater, the tighter.
+abbrev pub height : Level → ℕ
+height Whole = 0
+height Or = 1
+height And = 2
+height Comparison = 3
+height BitOr = 4
+height BitXor = 5
+height BitAnd = 6
+height Shift = 7
+height Sum = 8
+height Term = 9
+height Operand = 10
+
 abbrev pub is_operand : Level → Bool
 is_operand Operand = true
 is_operand _ = false

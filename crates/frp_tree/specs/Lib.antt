@@ -6,6 +6,7 @@ pub mod Limits
 pub mod Literals
 pub mod Names
 pub mod Prefixes
+pub mod Printed
 pub mod Priorities
 pub mod Tokens
 pub mod Tree
