@@ -14,6 +14,7 @@ pub mod LoopLaws
 pub mod OperandFacts
 pub mod ParsedFacts
 pub mod PhraseLaws
+pub mod PrintedFacts
 pub mod ProgramFacts
 pub mod RowFacts
 pub mod RunFacts

@@ -4,4 +4,5 @@ pub mod Items
 pub mod Lexed
 pub mod Parsed
 pub mod Pieces
+pub mod PrintedParts
 pub mod Programs

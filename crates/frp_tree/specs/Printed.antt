@@ -50,6 +50,10 @@ bare (If c a b) = Word (codes "if") ∷ (bare c ++ Word (codes "then") ∷ (bare
 bare (Convert to a) = Word (type_name to) ∷ Mark mark.OPENING_PARENTHESIS ∷ (bare a ++ Mark mark.CLOSING_PARENTHESIS ∷ [])
 bare (Look x e) = Word x ∷ Mark mark.OPENING_BRACKET ∷ (bare e ++ Mark mark.CLOSING_BRACKET ∷ [])
 
+-- The tokens of an expression where a level stands.
+abbrev pub shown : Level → Tree → List Token
+shown l e = wrapped (needs l e) (bare e)
+
 -- The items, each without the semicolon at its end.
 abbrev pub event_item : Event → List Token
 event_item e = Word (codes "event") ∷ Word e.name ∷ Mark mark.EQUALS ∷ Word e.source ∷ Word (codes "priority") ∷ Num e.priority ∷ []
@@ -65,9 +69,12 @@ abbrev pub clause_tokens : ClauseTree → List Token
 clause_tokens c = Word c.event ∷ Mark mark.ARROW ∷ (bare c.expr ++ (later_tokens c.later ++ Mark mark.SEMICOLON ∷ []))
 
 -- The entries of a table, with commas between them.
+abbrev pub more_entry_tokens : Lit → List Token
+more_entry_tokens l = Mark mark.COMMA ∷ literal_token l ∷ []
+
 abbrev pub entry_tokens : List Lit → List Token
 entry_tokens [] = []
-entry_tokens (l ∷ ls) = literal_token l ∷ flat_map (λ more. Mark mark.COMMA ∷ literal_token more ∷ []) ls
+entry_tokens (l ∷ ls) = literal_token l ∷ flat_map more_entry_tokens ls
 
 abbrev pub behaviour_tokens : BehaviourTree → List Token
 behaviour_tokens (Plain e) = bare e

@@ -1,6 +1,6 @@
 // How tightly the operators bind, and how each is written.
 ghost use Rattle.std.specs.Prelude.{◌≡◌};
-ghost use Rattle.frp_tree.specs.Levels.{tighter, repeats, level_of, mark_of, mark_of_shift, mark_of_sign};
+ghost use Rattle.frp_tree.specs.Levels.{height, tighter, repeats, level_of, mark_of, mark_of_shift, mark_of_sign};
 
 use crate::marks;
 use crate::syntax::{BinOp, Side, UnOp};
@@ -24,6 +24,25 @@ pub enum Level {
 }
 
 impl Level {
+    /// How tight the level is, from 0 for a whole expression to 10 for an operand. Takes no memory.
+    pub fn height(self) -> u8
+        ensures { result ≡ height self }
+    {
+        match self {
+            Level::Whole => 0,
+            Level::Or => 1,
+            Level::And => 2,
+            Level::Comparison => 3,
+            Level::BitOr => 4,
+            Level::BitXor => 5,
+            Level::BitAnd => 6,
+            Level::Shift => 7,
+            Level::Sum => 8,
+            Level::Term => 9,
+            Level::Operand => 10,
+        }
+    }
+
     /// The next tighter level; an operand's is its own. Takes no memory.
     pub fn tighter(self) -> Level
         ensures { result ≡ tighter self }
