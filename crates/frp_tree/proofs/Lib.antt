@@ -5,4 +5,5 @@ pub mod LexemeLaws
 pub mod LongestLaws
 pub mod MarkLaws
 pub mod PrintedLaws
+pub mod PrintedProgramLaws
 pub mod TokenLaws

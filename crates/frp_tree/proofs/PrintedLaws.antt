@@ -74,7 +74,7 @@ wrapped_spelled false l e d n h = loosen l (own e) (ltb-false (height (own e)) (
 shown_spelled : (l : Level) (e : Tree) (d : ℕ) → SpelledBare e → SpellsExpr l d e (shown_cells l e d)
 shown_spelled l e d h = wrapped_spelled (needs l e) l e d refl h
 
-whole_spelled : (e : Tree) (d : ℕ) → SpelledBare e → SpellsExpr level.Whole d e (bare_cells e d)
+pub whole_spelled : (e : Tree) (d : ℕ) → SpelledBare e → SpellsExpr level.Whole d e (bare_cells e d)
 whole_spelled e d h = loosen level.Whole (own e) (omega arith) (h d)
 
 left_of : (r : Bool) (l : Level) → repeats l ≡ r → left_level l ≡ (if r then l else tighter l)
@@ -199,7 +199,7 @@ looser l m e d h = looser_by (needs m e) (needs l e) l m e d refl refl h
 unneeded : (l : Level) (e : Tree) (d : ℕ) → height l ≤ height (own e) → shown_cells l e d ≡ bare_cells e d
 unneeded l e d h = ap (λ b. wrapped_cells b (bare_cells e) d) (le-ltb (height (own e)) (height l) h)
 
-whole_bare : (w : List Cell) (e : Tree) (d : ℕ) → NoWorse w (shown_cells level.Whole e d) → NoWorse w (bare_cells e d)
+pub whole_bare : (w : List Cell) (e : Tree) (d : ℕ) → NoWorse w (shown_cells level.Whole e d) → NoWorse w (bare_cells e d)
 whole_bare w e d h = subst (NoWorse w) (unneeded level.Whole e d (omega arith)) h
 
 binary_no_worse : (l : Level) (op : BinOp) (a b : Tree) (d : ℕ) (ts us : List Cell) → level_of op ≡ l → NoWorse ts (shown_cells (left_level l) a d) → NoWorse us (shown_cells (tighter l) b d) → NoWorse (ts ++ node (Mark (mark_of op)) ∷ us) (shown_cells l (Binary op a b) d)
