@@ -5,5 +5,7 @@ pub mod LexemeLaws
 pub mod LongestLaws
 pub mod MarkLaws
 pub mod PrintedLaws
+pub mod SpacedLaws
 pub mod PrintedProgramLaws
+pub mod PrintedTextLaws
 pub mod TokenLaws

@@ -106,11 +106,16 @@ OpensAtMost n c = c.opens ≤ n
 abbrev pub EntryAtMost : ℕ → Cell → Type 0
 EntryAtMost n c = c.entry ≤ n
 
--- The second cells nest no deeper than the first, begin as many of each kind, number no entry higher, and aren't more.
+abbrev pub Passes : (Token → Bool) → Cell → Type 0
+Passes p c = p c.token ≡ true
+
+-- The second cells nest no deeper than the first, begin as many of each kind, number no entry higher, and aren't more; and
+-- their tokens are among those of the first.
 pub record NoWorse (w v : List Cell) : Type 0 where
   pub shallow : (n : ℕ) → AllByRecursion (OpensAtMost n) w → AllByRecursion (OpensAtMost n) v
   pub counts : (kind : Kind) → count_of kind v ≡ count_of kind w
   pub short : (n : ℕ) → AllByRecursion (EntryAtMost n) w → AllByRecursion (EntryAtMost n) v
+  pub kept : (p : Token → Bool) → AllByRecursion (Passes p) w → AllByRecursion (Passes p) v
   pub fewer : length v ≤ length w
 
 pub all_append : (P : Cell → Type 0) (v w : List Cell) → AllByRecursion P v → AllByRecursion P w → AllByRecursion P (v ++ w)
@@ -129,16 +134,17 @@ pub count_append : (kind : Kind) (v w : List Cell) → count_of kind (v ++ w) �
 count_append kind v w = sum_by-append _ v w
 
 pub same_cells : (w : List Cell) → NoWorse w w
-same_cells w = record { shallow = λ n h. h; counts = λ kind. refl; short = λ n h. h; fewer = omega arith }
+same_cells w = record { shallow = λ n h. h; counts = λ kind. refl; short = λ n h. h; kept = λ p h. h; fewer = omega arith }
 
 pub no_worse_then : {u v w : List Cell} → NoWorse u v → NoWorse v w → NoWorse u w
-no_worse_then h k = record { shallow = λ n x. k.shallow n (h.shallow n x); counts = λ kind. k.counts kind ∙ h.counts kind; short = λ n x. k.short n (h.short n x); fewer = omega (arith, h.fewer, k.fewer) }
+no_worse_then h k = record { shallow = λ n x. k.shallow n (h.shallow n x); counts = λ kind. k.counts kind ∙ h.counts kind; short = λ n x. k.short n (h.short n x); kept = λ p x. k.kept p (h.kept p x); fewer = omega (arith, h.fewer, k.fewer) }
 
 pub no_worse_append : {v w x y : List Cell} → NoWorse v x → NoWorse w y → NoWorse (v ++ w) (x ++ y)
 no_worse_append {v = v} {w = w} {x = x} {y = y} h k = record {
   shallow = λ n a. all_append (OpensAtMost n) x y (h.shallow n (all_front (OpensAtMost n) v w a)) (k.shallow n (all_back (OpensAtMost n) v w a));
   counts = λ kind. count_append kind x y ∙ ap (λ m. m + count_of kind y) (h.counts kind) ∙ ap (λ m. count_of kind v + m) (k.counts kind) ∙ sym (count_append kind v w);
   short = λ n a. all_append (EntryAtMost n) x y (h.short n (all_front (EntryAtMost n) v w a)) (k.short n (all_back (EntryAtMost n) v w a));
+  kept = λ p a. all_append (Passes p) x y (h.kept p (all_front (Passes p) v w a)) (k.kept p (all_back (Passes p) v w a));
   fewer = omega (arith, length-append x y, length-append v w, h.fewer, k.fewer);
 }
 
@@ -151,10 +157,10 @@ no_worse_before w h = no_worse_append h (same_cells w)
 -- One nesting less is no worse.
 
 lower_node : (d : ℕ) (t : Token) → NoWorse (opening_node (suc d) t ∷ []) (opening_node d t ∷ [])
-lower_node d t = record { shallow = λ n h. let k = h.0 in (omega arith, tt); counts = λ kind. refl; short = λ n h. h; fewer = omega arith }
+lower_node d t = record { shallow = λ n h. let k = h.0 in (omega arith, tt); counts = λ kind. refl; short = λ n h. h; kept = λ p h. h; fewer = omega arith }
 
 lower : (d : ℕ) (t : Token) → NoWorse (opening (suc d) t ∷ []) (opening d t ∷ [])
-lower d t = record { shallow = λ n h. let k = h.0 in (omega arith, tt); counts = λ kind. refl; short = λ n h. h; fewer = omega arith }
+lower d t = record { shallow = λ n h. let k = h.0 in (omega arith, tt); counts = λ kind. refl; short = λ n h. h; kept = λ p h. h; fewer = omega arith }
 
 -- Nor is what stands in brackets.
 unwrapped : (d : ℕ) (w : List Cell) → NoWorse (wrapped_cells true (λ n. w) d) w
@@ -162,6 +168,7 @@ unwrapped d w = record {
   shallow = λ n h. all_front (OpensAtMost n) w (sign mark.CLOSING_PARENTHESIS ∷ []) h.1;
   counts = λ kind. omega (arith, count_append kind w (sign mark.CLOSING_PARENTHESIS ∷ []));
   short = λ n h. all_front (EntryAtMost n) w (sign mark.CLOSING_PARENTHESIS ∷ []) h.1;
+  kept = λ p h. all_front (Passes p) w (sign mark.CLOSING_PARENTHESIS ∷ []) h.1;
   fewer = omega (arith, length-append w (sign mark.CLOSING_PARENTHESIS ∷ []));
 }
 

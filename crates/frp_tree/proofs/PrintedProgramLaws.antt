@@ -105,9 +105,9 @@ program_same p =
 
 -- They spell the program, if anything does, and are no worse than what does.
 
-record Better {A : Type 0} (Item : A → List Cell → Type 0) (x : A) (w v : List Cell) : Type 0 where
-  spelled : Item x v
-  no_worse : NoWorse w v
+pub record Better {A : Type 0} (Item : A → List Cell → Type 0) (x : A) (w v : List Cell) : Type 0 where
+  pub spelled : Item x v
+  pub no_worse : NoWorse w v
 
 better_row : {A : Type 0} {Item : A → List Cell → Type 0} {xs : List A} {w : List Cell} (cells : A → List Cell) → ((x : A) (v : List Cell) → Item x v → Better Item x v (cells x)) → Row Item xs w → Better (Row Item) xs w (flat_map cells xs)
 better_row cells h none = record { spelled = none; no_worse = same_cells _ }
@@ -148,7 +148,7 @@ better_output o w s = record {
   no_worse = subst (λ x. NoWorse x (output_cells o)) (sym s.whole) (no_worse_behind (starting Outputs (Word (codes "output")) ∷ word o.port ∷ sign mark.EQUALS ∷ []) (no_worse_before semicolon (whole_bare s.value o.expr 0 (no_worse s.spelled))));
 }
 
-better_program : (p : ProgramTree) (w : List Cell) → SpellsProgram p w → Better SpellsProgram p w (program_cells p)
+pub better_program : (p : ProgramTree) (w : List Cell) → SpellsProgram p w → Better SpellsProgram p w (program_cells p)
 better_program p w s =
     let e = better_row event_cells better_event s.spelled_events in
     let t = better_row setup_cells better_setup s.spelled_setups in

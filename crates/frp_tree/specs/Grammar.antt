@@ -1,5 +1,7 @@
 -- The grammar: which cells spell which tree. No rule speaks of limits.
 use Rattle.std.specs.Prelude.{◌≡◌, ℕ, suc, Bool, true, false, List, [], ◌∷◌, ◌++◌, codes}
+use Rattle.std.specs.Prelude.{◌≡◌, ℕ, ◌+◌, suc, Bool, true, false, List, [], ◌∷◌, ◌++◌, codes}
+use Rattle.std.specs.List.{AllByRecursion}
 use Rattle.frp_tree.specs.declared.kinds.Kind.TheVariants.{Events, Setups, Definitions, Outputs}
 use Rattle.frp_tree.specs.declared.syntax.Ty.{Ty}
 use Rattle.frp_tree.specs.declared.syntax.Lit.{Lit}
@@ -15,7 +17,7 @@ use Rattle.frp_tree.specs.declared.tokens.Token.{Token}
 use Rattle.frp_tree.specs.declared.tokens.Token.TheVariants.{Word, Num, Mark}
 use Rattle.frp_tree.specs.Names.{type_name, is_keyword}
 use Rattle.frp_tree.specs.Limits.{is_number_type}
-use Rattle.frp_tree.specs.Tokens.{HasTokens}
+use Rattle.frp_tree.specs.Tokens.{Cuts, IsWithin, HasTokens}
 use Rattle.frp_tree.specs.Tree.{Tree, Const, Name, Unary, Binary, Shift, If, Convert, Look, ClauseTree, BehaviourTree, Plain, Input, Table, Reactive, DeclTree, OutputTree, ProgramTree}
 use Rattle.frp_tree.specs.Levels.{tighter, is_operand, repeats, level_of, mark_of, mark_of_shift, mark_of_sign}
 use Rattle.frp_tree.specs.Cells.{Cell, plain, starting, node, opening_node, opening, entry_cell, tokens_of, literal_token, IsWithinLimits}
@@ -147,4 +149,12 @@ pub record HasTreeWithin (p : ProgramTree) (ts : List Token) : Type 0 where
 pub record Spells (text : List ℕ) (p : ProgramTree) : Type 0 where
   pub tokens : List Token
   pub cut : HasTokens text tokens
+  pub tree : HasTreeWithin p tokens
+
+-- The same of a text of any length.
+pub record SpellsUnbounded (text : List ℕ) (p : ProgramTree) : Type 0 where
+  pub tokens : List Token
+  pub last : Bool
+  pub cut : Cuts false text tokens last []
+  pub within : AllByRecursion IsWithin tokens
   pub tree : HasTreeWithin p tokens
