@@ -1,7 +1,8 @@
 // The text of a program.
-ghost use Rattle.std.specs.Prelude.{◌≡◌, ◌++◌, OnOk, IfOk, map};
+ghost use Rattle.std.specs.Prelude.{◌≡◌, ◌≤◌, ℕ, List as Bytes, ◌++◌, length, OnOk, IfOk, map};
 ghost use Rattle.std.specs.List.{flat_map};
 ghost use Rattle.frp_tree.specs.Tree.{Table, Reactive, clause_of, behaviour_of, decl_of, output_of, program_tree_of};
+ghost use Rattle.frp_tree.specs.Grammar.{Spells, SpellsUnbounded};
 ghost use Rattle.frp_tree.specs.Printed.{clause_tokens, more_entry_tokens, entry_tokens, behaviour_tokens, event_item, setup_item, decl_item, output_item, spaced, line, printed};
 
 use crate::backward::Backward;
@@ -182,16 +183,27 @@ fn outputs(out: &mut Backward, outputs: &[Output]) -> Result<(), AllocError>
     Ok(())
 }
 
-/// The text of a program: a line for each item, one space between tokens, and the fewest brackets. An `Err` is out of
-/// memory. The time is linear in the text.
-pub fn print(alloc: Global, p: &Program) -> Result<List<u8>, AllocError>
-    // The text, whole.
-    ensures printed { IfOk result (λ bytes. bytes ≡ printed (program_tree_of p.now)) }
+/// Writes a program.
+fn program(alloc: Global, p: &Program) -> Result<Backward, AllocError>
+    ensures { IfOk result (λ text. text ≡ printed (program_tree_of p.now)) }
 {
     let mut out = Backward::new(alloc);
     outputs(&mut out, p.outputs.as_slice())?;
     decls(&mut out, p.decls.as_slice())?;
     setups(&mut out, p.setups.as_slice())?;
     events(&mut out, p.events.as_slice())?;
-    Ok(out.finish())
+    Ok(out)
+}
+
+/// The text of a program: a line for each item, one space between tokens, and the fewest brackets. An `Err` is out of
+/// memory. The time is linear in the text.
+pub fn print(alloc: Global, p: &Program) -> Result<List<u8>, AllocError>
+    // The text, whole.
+    ensures printed { IfOk result (λ bytes. bytes ≡ printed (program_tree_of p.now)) }
+    // It spells the program, if any text does; and within the limit of a text's length, where it isn't longer.
+    ensures spells { (text : Bytes ℕ) → Spells text (program_tree_of p.now) → IfOk result (λ bytes. SpellsUnbounded bytes (program_tree_of p.now)) }
+    ensures short { (text : Bytes ℕ) → Spells text (program_tree_of p.now) → IfOk result (λ bytes. length bytes ≤ 65536 → Spells bytes (program_tree_of p.now)) }
+{
+    let text = program(alloc, p)?;
+    Ok(text.finish())
 }
