@@ -1,11 +1,12 @@
 pub mod BreakLaws
+pub mod ChainLaws
 pub mod Examples
 pub mod LevelLaws
 pub mod LexemeLaws
 pub mod LongestLaws
 pub mod MarkLaws
 pub mod PrintedLaws
-pub mod SpacedLaws
 pub mod PrintedProgramLaws
 pub mod PrintedTextLaws
+pub mod SpacedLaws
 pub mod TokenLaws
