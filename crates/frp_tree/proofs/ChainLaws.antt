@@ -44,14 +44,13 @@ pub data Chain : Option Tree → Level → ℕ → Tree → List Cell → Type 0
       → Chain (Some a) l d (Binary op a b) (node (Mark (mark_of op)) ∷ ts)
 
 -- No operator is of the loosest or of the tightest level, or a shift's.
-pub is_binary : Level → Bool
+abbrev pub is_binary : Level → Bool
 is_binary level.Whole = false
 is_binary level.Operand = false
 is_binary level.Shift = false
 is_binary _ = true
 
 pub binary_level : (op : BinOp) → is_binary (level_of op) ≡ true
-unfolding is_binary
 binary_level binary.Or = refl
 binary_level binary.And = refl
 binary_level binary.Eq = refl
@@ -94,10 +93,9 @@ extend v k r step (of_choice ts us vs c a b) = absurd (k.0 refl)
 extend {l = l} {d = d} {b = b} v k r step (of_row ts us o c g) = subst (Chain None l d b) (sym (append_assoc ts us v)) (of_row ts (us ++ v) o c (one_more v r step g))
 
 between : (op : BinOp) (l : Level) → level_of op ≡ l → IsBetween l
-unfolding is_binary
 between op l o = (λ e. false≢true (ap is_binary (sym (o ∙ e)) ∙ binary_level op), λ e. false≢true (ap is_binary (sym (o ∙ e)) ∙ binary_level op))
 
-no_operand_op : (op : BinOp) (l : Level) → level_of op ≡ l → is_operand l ≡ false
+pub no_operand_op : (op : BinOp) (l : Level) → level_of op ≡ l → is_operand l ≡ false
 no_operand_op op l o = go l (between op l o).1
   where
     go : (l : Level) → (l ≡ level.Operand → ⊥) → is_operand l ≡ false

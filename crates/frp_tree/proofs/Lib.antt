@@ -5,6 +5,7 @@ pub mod LevelLaws
 pub mod LexemeLaws
 pub mod LongestLaws
 pub mod MarkLaws
+pub mod OneExpressionLaws
 pub mod PrintedLaws
 pub mod PrintedProgramLaws
 pub mod PrintedTextLaws
