@@ -6,6 +6,7 @@ pub mod LexemeLaws
 pub mod LongestLaws
 pub mod MarkLaws
 pub mod OneExpressionLaws
+pub mod OneTreeLaws
 pub mod PrintedLaws
 pub mod PrintedProgramLaws
 pub mod PrintedTextLaws

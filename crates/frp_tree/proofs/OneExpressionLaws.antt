@@ -139,7 +139,7 @@ pub same_type : (s t : Ty) → type_name s ≡ type_name t → s ≡ t
 same_type s t e = sym (type_back s) ∙ ap type_of e ∙ type_back t
 
 -- What an expression begins with.
-data First : Type 0 where
+pub data First : Type 0 where
   a_literal : First
   a_name : First
   a_bracket : First
@@ -148,13 +148,13 @@ data First : Type 0 where
   a_choice : First
   nothing : First
 
-abbrev first_of : Token → First
+abbrev pub first_of : Token → First
 first_of (Num n) = a_literal
 first_of (Wide n) = a_literal
-first_of (Word w) = if is_keyword w then (if bytes_eq w (codes "if") then a_choice else (if bytes_eq w (codes "true") || bytes_eq w (codes "false") then a_literal else a_conversion)) else a_name
+first_of (Word w) = if is_keyword w then (if bytes_eq w (codes "if") then a_choice else (if bytes_eq w (codes "true") || bytes_eq w (codes "false") then a_literal else (if bytes_eq w (codes "u8") || bytes_eq w (codes "u16") then a_conversion else nothing))) else a_name
 first_of (Mark k) = if k == 5 then a_bracket else (if k == 26 || k == 27 then a_sign else nothing)
 
-abbrev firsts : List Token → First
+abbrev pub firsts : List Token → First
 firsts [] = nothing
 firsts (t ∷ ts) = first_of t
 
@@ -186,7 +186,7 @@ literal_first (lit.Truth true) = refl
 literal_first (lit.Truth false) = refl
 
 name_first : (x : List ℕ) → is_keyword x ≡ false → first_of (Word x) ≡ a_name
-name_first x k = ap (λ b. if b then (if bytes_eq x (codes "if") then a_choice else (if bytes_eq x (codes "true") || bytes_eq x (codes "false") then a_literal else a_conversion)) else a_name) k
+name_first x k = ap (λ b. if b then (if bytes_eq x (codes "if") then a_choice else (if bytes_eq x (codes "true") || bytes_eq x (codes "false") then a_literal else (if bytes_eq x (codes "u8") || bytes_eq x (codes "u16") then a_conversion else nothing))) else a_name) k
 
 sign_first : (op : UnOp) → first_of (Mark (mark_of_sign op)) ≡ a_sign
 sign_first Com = refl
@@ -238,7 +238,7 @@ tighter_no_whole level.Sum = refl
 tighter_no_whole level.Term = refl
 tighter_no_whole level.Operand = refl
 
-split : (w v : List Cell) (c : List Token) → tokens_of (w ++ v) ++ c ≡ tokens_of w ++ (tokens_of v ++ c)
+pub split : (w v : List Cell) (c : List Token) → tokens_of (w ++ v) ++ c ≡ tokens_of w ++ (tokens_of v ++ c)
 split w v c = ap (λ x. x ++ c) (tokens_append w v) ∙ append_assoc (tokens_of w) (tokens_of v) c
 
 no_choice : {l : Level} {d : ℕ} {e : Tree} {w : List Cell} → Chain None l d e w → is_whole l ≡ false → (c : List Token) → firsts (tokens_of w ++ c) ≡ a_choice → ⊥
@@ -250,6 +250,31 @@ no_choice (of_sign {d = d} {op = op} ts s) n c h = operand_no_choice (of_sign {d
 no_choice (of_conversion {d = d} {to = to} ts t s) n c h = operand_no_choice (of_conversion {d = d} {to = to} ts t s) c h
 no_choice (of_choice ts us vs s t u) n c h = absurd (false≢true (sym n))
 no_choice (of_row {l = l} ts us o s g) n c h = no_choice s (tighter_no_whole l) (tokens_of us ++ c) (sym (ap firsts (split ts us c)) ∙ h)
+
+opened_something : {d : ℕ} {x : First} {e : Tree} {w : List Cell} → Opened d x e w → x ≡ nothing → ⊥
+opened_something o_literal h = cc
+opened_something (o_name k) h = cc
+opened_something (o_look ts k s) h = cc
+opened_something (o_brackets ts s) h = cc
+opened_something (o_sign ts s) h = cc
+opened_something (o_conversion ts t s) h = cc
+
+operand_something : {d : ℕ} {e : Tree} {w : List Cell} → Chain None level.Operand d e w → (c : List Token) → firsts (tokens_of w ++ c) ≡ nothing → ⊥
+operand_something q c h = let (x, o) = opened q in opened_something o (sym (opened_first o c) ∙ h)
+
+chain_something : {l : Level} {d : ℕ} {e : Tree} {w : List Cell} → Chain None l d e w → (c : List Token) → firsts (tokens_of w ++ c) ≡ nothing → ⊥
+chain_something (of_literal {d = d} {l = l}) c h = operand_something (of_literal {d = d} {l = l}) c h
+chain_something (of_name {d = d} {x = x} k) c h = operand_something (of_name {d = d} {x = x} k) c h
+chain_something (of_look {d = d} {x = x} ts k s) c h = operand_something (of_look {d = d} {x = x} ts k s) c h
+chain_something (of_brackets ts s) c h = operand_something (of_brackets ts s) c h
+chain_something (of_sign {d = d} {op = op} ts s) c h = operand_something (of_sign {d = d} {op = op} ts s) c h
+chain_something (of_conversion {d = d} {to = to} ts t s) c h = operand_something (of_conversion {d = d} {to = to} ts t s) c h
+chain_something (of_choice ts us vs s t u) c h = cc
+chain_something (of_row ts us o s g) c h = chain_something s (tokens_of us ++ c) (sym (ap firsts (split ts us c)) ∙ h)
+
+-- An expression begins with a token that can begin one.
+pub begins_something : {l : Level} {d : ℕ} {e : Tree} {w : List Cell} → SpellsExpr l d e w → (c : List Token) → firsts (tokens_of w ++ c) ≡ nothing → ⊥
+begins_something s c h = chain_something (chain s) c h
 
 -- What tokens begin is this expression, spelled so.
 abbrev One : Option Tree → Level → ℕ → Tree → List Cell → Type 0

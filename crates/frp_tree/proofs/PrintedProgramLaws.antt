@@ -23,13 +23,13 @@ use Rattle.frp_tree.proofs.PrintedLaws.{bare_cells, tokens_append, tokens_join, 
 
 -- The cells of what is printed.
 
-abbrev semicolon : List Cell
+abbrev pub semicolon : List Cell
 semicolon = sign mark.SEMICOLON ∷ []
 
-abbrev event_cells : Event → List Cell
+abbrev pub event_cells : Event → List Cell
 event_cells e = starting Events (Word (codes "event")) ∷ word e.name ∷ sign mark.EQUALS ∷ word e.source ∷ word (codes "priority") ∷ plain (Num e.priority) ∷ semicolon
 
-abbrev setup_cells : Setup → List Cell
+abbrev pub setup_cells : Setup → List Cell
 setup_cells s = starting Setups (Word (codes "setup")) ∷ word s.register ∷ sign mark.EQUALS ∷ plain (Num s.byte) ∷ semicolon
 
 abbrev clause_cells : ClauseTree → List Cell

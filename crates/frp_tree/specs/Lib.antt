@@ -1,6 +1,7 @@
 pub mod Breaks
 pub mod Cells
 pub mod Grammar
+pub mod Laws
 pub mod Levels
 pub mod Limits
 pub mod Literals
