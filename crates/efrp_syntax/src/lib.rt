@@ -30,7 +30,7 @@ pub use fault_laws::one_fault;
 pub use faults::SyntaxFault;
 pub use frp_tree::{Kind, Token};
 pub use keywords::is_keyword;
-pub use laws::one_list_of_tokens;
+pub use laws::{fewest_brackets, one_list_of_tokens, one_program, one_tree};
 pub use lexer::lex;
 pub use parser::parse;
 pub use printer::print;
