@@ -1,5 +1,5 @@
 -- What the parts of the printer leave to be written.
-use Rattle.std.specs.Prelude.{◌≡◌, ◌<◌, ℕ, List, ◌++◌, Option, None, Some, Result, Ok, Err}
+use Rattle.std.specs.Prelude.{◌≡◌, ◌<◌, ℕ, List, ◌++◌, Option, None, Some}
 use Rattle.std.specs.Borrow.{Bor}
 use Rattle.frp_tree.specs.declared.levels.Level.{Level}
 use Rattle.frp_tree.specs.declared.syntax.Expr.{Expr}

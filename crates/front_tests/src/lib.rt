@@ -3,5 +3,6 @@
 
 #[cfg(test)]
 mod parse_tests;
+mod printing_tests;
 #[cfg(test)]
 mod token_tests;

@@ -1,5 +1,5 @@
 -- Laws on levels: an expression of a level is one of each looser level.
-use Rattle.std.proofs.Common.{◌≡◌, ℕ, zero, suc, ◌+◌, ◌-◌, ◌<◌, ◌≤◌, Bool, true, false, List, refl, sym, ap, subst, ◌∙◌, arith}
+use Rattle.std.proofs.Common.{◌≡◌, ℕ, zero, suc, ◌+◌, ◌-◌, ◌<◌, ◌≤◌, false, List, refl, sym, ap, subst, ◌∙◌, arith}
 use Rattle.frp_tree.specs.declared.levels.Level.{Level}
 use Rattle.frp_tree.specs.declared.levels.Level.TheVariants as level
 use Rattle.frp_tree.specs.Tree.{Tree}

@@ -343,9 +343,10 @@ one_conversion d to a ts k one f v b c q s t e = go (reopened c q (ap firsts e �
     go (o_conversion {to = u} {e = g} us j r) e =
         let h : type_name u ≡ type_name to = cc in
         let rest : tokens_of (us ++ sign mark.CLOSING_PARENTHESIS ∷ []) ++ c ≡ tokens_of (ts ++ sign mark.CLOSING_PARENTHESIS ∷ []) ++ b = cc in
-        let (m, n) = closed mark.CLOSING_PARENTHESIS b c refl one r rest in
-        (ap (λ z. Convert z g) (same_type u to h) ∙ ap (Convert to) m,
-         ap (λ z. opening_node (suc d) (Word z) ∷ sign mark.OPENING_PARENTHESIS ∷ (us ++ sign mark.CLOSING_PARENTHESIS ∷ [])) h ∙ ap (λ z. opening_node (suc d) (Word (type_name to)) ∷ sign mark.OPENING_PARENTHESIS ∷ (z ++ sign mark.CLOSING_PARENTHESIS ∷ [])) n)
+        let (m, n) = closed mark.CLOSING_PARENTHESIS b c refl one r rest in (
+          ap (λ z. Convert z g) (same_type u to h) ∙ ap (Convert to) m,
+          ap (λ z. opening_node (suc d) (Word z) ∷ sign mark.OPENING_PARENTHESIS ∷ (us ++ sign mark.CLOSING_PARENTHESIS ∷ [])) h ∙ ap (λ z. opening_node (suc d) (Word (type_name to)) ∷ sign mark.OPENING_PARENTHESIS ∷ (z ++ sign mark.CLOSING_PARENTHESIS ∷ [])) n,
+        )
 
 -- A choice.
 
@@ -355,16 +356,17 @@ one_choice d x y z ts us vs one two three f v b c (of_row rs gs o p g) s t e = a
 one_choice d x y z ts us vs one two three f v b c (of_choice {c = i} {a = j} {b = k} is js ks p q r) s t e =
     let start : tokens_of (is ++ word (codes "then") ∷ (js ++ word (codes "else") ∷ ks)) ++ c ≡ tokens_of (ts ++ word (codes "then") ∷ (us ++ word (codes "else") ∷ vs)) ++ b = cc in
     let m = phrase (Word (codes "then") ∷ (tokens_of (us ++ word (codes "else") ∷ vs) ++ b)) (Word (codes "then") ∷ (tokens_of (js ++ word (codes "else") ∷ ks) ++ c)) one p (omega arith) (omega arith)
-        (sym (split is (word (codes "then") ∷ (js ++ word (codes "else") ∷ ks)) c) ∙ start ∙ split ts (word (codes "then") ∷ (us ++ word (codes "else") ∷ vs)) b) in
+    (sym (split is (word (codes "then") ∷ (js ++ word (codes "else") ∷ ks)) c) ∙ start ∙ split ts (word (codes "then") ∷ (us ++ word (codes "else") ∷ vs)) b) in
     let middle : tokens_of (js ++ word (codes "else") ∷ ks) ++ c ≡ tokens_of (us ++ word (codes "else") ∷ vs) ++ b = cc m.2 in
     let n = phrase (Word (codes "else") ∷ (tokens_of vs ++ b)) (Word (codes "else") ∷ (tokens_of ks ++ c)) two q (omega arith) (omega arith)
-        (sym (split js (word (codes "else") ∷ ks) c) ∙ middle ∙ split us (word (codes "else") ∷ vs) b) in
+    (sym (split js (word (codes "else") ∷ ks) c) ∙ middle ∙ split us (word (codes "else") ∷ vs) b) in
     let end : tokens_of ks ++ c ≡ tokens_of vs ++ b = cc n.2 in
-    let o = three k ks b c r s t end in
-    (ap (λ w. If w j k) m.0 ∙ ap (λ w. If x w k) n.0 ∙ ap (If x y) o.0,
-     ap (λ w. opening_node (suc d) (Word (codes "if")) ∷ (w ++ word (codes "then") ∷ (js ++ word (codes "else") ∷ ks))) m.1
-     ∙ ap (λ w. opening_node (suc d) (Word (codes "if")) ∷ (ts ++ word (codes "then") ∷ (w ++ word (codes "else") ∷ ks))) n.1
-     ∙ ap (λ w. opening_node (suc d) (Word (codes "if")) ∷ (ts ++ word (codes "then") ∷ (us ++ word (codes "else") ∷ w))) o.1)
+    let o = three k ks b c r s t end in (
+      ap (λ w. If w j k) m.0 ∙ ap (λ w. If x w k) n.0 ∙ ap (If x y) o.0,
+      ap (λ w. opening_node (suc d) (Word (codes "if")) ∷ (w ++ word (codes "then") ∷ (js ++ word (codes "else") ∷ ks))) m.1
+          ∙ ap (λ w. opening_node (suc d) (Word (codes "if")) ∷ (ts ++ word (codes "then") ∷ (w ++ word (codes "else") ∷ ks))) n.1
+          ∙ ap (λ w. opening_node (suc d) (Word (codes "if")) ∷ (ts ++ word (codes "then") ∷ (us ++ word (codes "else") ∷ w))) o.1,
+    )
 
 -- Rows of operators.
 

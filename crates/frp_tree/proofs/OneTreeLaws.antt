@@ -1,5 +1,5 @@
 -- Tokens have one tree at most.
-use Rattle.std.proofs.Common.{◌≡◌, ℕ, suc, ◌<◌, ◌≤◌, Bool, true, false, if◌then◌else◌, List, [], ◌∷◌, ◌++◌, codes, refl, sym, ap, subst, ◌∙◌, arith}
+use Rattle.std.proofs.Common.{◌≡◌, ℕ, suc, ◌<◌, Bool, true, false, if◌then◌else◌, List, [], ◌∷◌, ◌++◌, codes, refl, sym, ap, ◌∙◌, arith}
 use Rattle.std.specs.Str.{bytes_eq}
 use Rattle.std.proofs.lemmas.Bool.{false≢true}
 use Rattle.std.proofs.lemmas.List.{append-nil}
@@ -13,12 +13,12 @@ use Rattle.frp_tree.specs.declared.syntax.Setup.{Setup}
 use Rattle.frp_tree.specs.declared.tokens.Token.{Token}
 use Rattle.frp_tree.specs.declared.tokens.Token.TheVariants.{Word, Num, Wide, Mark}
 use Rattle.frp_tree.specs.Names.{type_name}
-use Rattle.frp_tree.specs.Tree.{Tree, ClauseTree, BehaviourTree, Plain, Input, Table, Reactive, DeclTree, OutputTree, ProgramTree}
+use Rattle.frp_tree.specs.Tree.{ClauseTree, BehaviourTree, Plain, Input, Table, Reactive, DeclTree, OutputTree, ProgramTree}
 use Rattle.frp_tree.specs.Cells.{Cell, plain, starting, entry_cell, tokens_of, literal_token}
-use Rattle.frp_tree.specs.Grammar.{word, sign, SpellsExpr, Row, none, next, SpellsEvent, SpellsSetup, later_cells, SpellsClause, more_entries, SpellsBehaviour, plainly, input, table, reactive, SpellsDecl, SpellsOutput, SpellsProgram, HasTree, Spells}
+use Rattle.frp_tree.specs.Grammar.{word, sign, Row, none, next, SpellsEvent, SpellsSetup, later_cells, SpellsClause, more_entries, SpellsBehaviour, plainly, input, table, reactive, SpellsDecl, SpellsOutput, SpellsProgram, HasTree, Spells}
 use Rattle.frp_tree.proofs.TokenLaws.{one_list}
 use Rattle.frp_tree.proofs.PrintedProgramLaws.{event_cells, setup_cells}
-use Rattle.frp_tree.proofs.OneExpressionLaws.{same_literal, same_type, nothing, firsts, begins_something, split, Stops, one_expression}
+use Rattle.frp_tree.proofs.OneExpressionLaws.{same_literal, same_type, firsts, begins_something, split, Stops, one_expression}
 
 -- One item of these is spelled by the tokens, and one row of them.
 abbrev OneOf : {A : Type 0} → (A → List Cell → Type 0) → Type 0
@@ -105,7 +105,7 @@ one_clause x y w v b c s t h =
     let n : y.event ≡ x.event = cc k in
     let rest : tokens_of (t.value ++ (later_cells y.later ++ sign mark.SEMICOLON ∷ [])) ++ c ≡ tokens_of (s.value ++ (later_cells x.later ++ sign mark.SEMICOLON ∷ [])) ++ b = cc k in
     let m = one_expression (tokens_of (later_cells x.later ++ sign mark.SEMICOLON ∷ []) ++ b) (tokens_of (later_cells y.later ++ sign mark.SEMICOLON ∷ []) ++ c) s.spelled t.spelled (later_stops x.later b) (later_stops y.later c)
-        (sym (split t.value (later_cells y.later ++ sign mark.SEMICOLON ∷ []) c) ∙ rest ∙ split s.value (later_cells x.later ++ sign mark.SEMICOLON ∷ []) b) in
+    (sym (split t.value (later_cells y.later ++ sign mark.SEMICOLON ∷ []) c) ∙ rest ∙ split s.value (later_cells x.later ++ sign mark.SEMICOLON ∷ []) b) in
     let l = one_later x.later y.later b c m.2 in
     (same_clause x y n m.0 l.0, t.whole ∙ ap (λ z. clause_with z t.value y.later) n ∙ ap (λ z. clause_with x.event z y.later) m.1 ∙ ap (clause_with x.event s.value) l.0 ∙ sym s.whole, l.1)
 
@@ -262,20 +262,21 @@ program_split e s d o =
 one_program_tree : (x y : ProgramTree) (w v : List Cell) → SpellsProgram x w → SpellsProgram y v → tokens_of v ≡ tokens_of w → (y ≡ x) × (v ≡ w)
 one_program_tree x y w v s t h =
     let k : tokens_of t.events ++ after_events t.setups t.decls t.outputs ≡ tokens_of s.events ++ after_events s.setups s.decls s.outputs =
-        sym (program_split t.events t.setups t.decls t.outputs) ∙ sym (ap tokens_of t.whole) ∙ h ∙ ap tokens_of s.whole ∙ program_split s.events s.setups s.decls s.outputs in
+    sym (program_split t.events t.setups t.decls t.outputs) ∙ sym (ap tokens_of t.whole) ∙ h ∙ ap tokens_of s.whole ∙ program_split s.events s.setups s.decls s.outputs in
     let e = one_row (is_word (codes "event")) (after_events s.setups s.decls s.outputs) (after_events t.setups t.decls t.outputs) (event_leads (codes "event")) one_event
-        (row_leads (is_word (codes "event")) (after_setups s.decls s.outputs) (setup_leads (codes "event")) (row_leads (is_word (codes "event")) (after_decls s.outputs) (decl_leads (codes "event")) (row_leads (is_word (codes "event")) [] (output_leads (codes "event")) refl s.spelled_outputs) s.spelled_decls) s.spelled_setups)
-        (row_leads (is_word (codes "event")) (after_setups t.decls t.outputs) (setup_leads (codes "event")) (row_leads (is_word (codes "event")) (after_decls t.outputs) (decl_leads (codes "event")) (row_leads (is_word (codes "event")) [] (output_leads (codes "event")) refl t.spelled_outputs) t.spelled_decls) t.spelled_setups)
-        s.spelled_events t.spelled_events k in
+    (row_leads (is_word (codes "event")) (after_setups s.decls s.outputs) (setup_leads (codes "event")) (row_leads (is_word (codes "event")) (after_decls s.outputs) (decl_leads (codes "event")) (row_leads (is_word (codes "event")) [] (output_leads (codes "event")) refl s.spelled_outputs) s.spelled_decls) s.spelled_setups)
+    (row_leads (is_word (codes "event")) (after_setups t.decls t.outputs) (setup_leads (codes "event")) (row_leads (is_word (codes "event")) (after_decls t.outputs) (decl_leads (codes "event")) (row_leads (is_word (codes "event")) [] (output_leads (codes "event")) refl t.spelled_outputs) t.spelled_decls) t.spelled_setups)
+    s.spelled_events t.spelled_events k in
     let p = one_row (is_word (codes "setup")) (after_setups s.decls s.outputs) (after_setups t.decls t.outputs) (setup_leads (codes "setup")) one_setup
-        (row_leads (is_word (codes "setup")) (after_decls s.outputs) (decl_leads (codes "setup")) (row_leads (is_word (codes "setup")) [] (output_leads (codes "setup")) refl s.spelled_outputs) s.spelled_decls)
-        (row_leads (is_word (codes "setup")) (after_decls t.outputs) (decl_leads (codes "setup")) (row_leads (is_word (codes "setup")) [] (output_leads (codes "setup")) refl t.spelled_outputs) t.spelled_decls)
-        s.spelled_setups t.spelled_setups e.2 in
+    (row_leads (is_word (codes "setup")) (after_decls s.outputs) (decl_leads (codes "setup")) (row_leads (is_word (codes "setup")) [] (output_leads (codes "setup")) refl s.spelled_outputs) s.spelled_decls)
+    (row_leads (is_word (codes "setup")) (after_decls t.outputs) (decl_leads (codes "setup")) (row_leads (is_word (codes "setup")) [] (output_leads (codes "setup")) refl t.spelled_outputs) t.spelled_decls)
+    s.spelled_setups t.spelled_setups e.2 in
     let d = one_row (is_word (codes "let")) (after_decls s.outputs) (after_decls t.outputs) (decl_leads (codes "let")) one_decl
-        (row_leads (is_word (codes "let")) [] (output_leads (codes "let")) refl s.spelled_outputs) (row_leads (is_word (codes "let")) [] (output_leads (codes "let")) refl t.spelled_outputs) s.spelled_decls t.spelled_decls p.2 in
-    let o = one_row (is_word (codes "output")) [] [] (output_leads (codes "output")) one_output refl refl s.spelled_outputs t.spelled_outputs d.2 in
-    (same_program x y e.0 p.0 d.0 o.0,
-     t.whole ∙ ap (λ z. z ++ (t.setups ++ (t.decls ++ t.outputs))) e.1 ∙ ap (λ z. s.events ++ (z ++ (t.decls ++ t.outputs))) p.1 ∙ ap (λ z. s.events ++ (s.setups ++ (z ++ t.outputs))) d.1 ∙ ap (λ z. s.events ++ (s.setups ++ (s.decls ++ z))) o.1 ∙ sym s.whole)
+    (row_leads (is_word (codes "let")) [] (output_leads (codes "let")) refl s.spelled_outputs) (row_leads (is_word (codes "let")) [] (output_leads (codes "let")) refl t.spelled_outputs) s.spelled_decls t.spelled_decls p.2 in
+    let o = one_row (is_word (codes "output")) [] [] (output_leads (codes "output")) one_output refl refl s.spelled_outputs t.spelled_outputs d.2 in (
+      same_program x y e.0 p.0 d.0 o.0,
+      t.whole ∙ ap (λ z. z ++ (t.setups ++ (t.decls ++ t.outputs))) e.1 ∙ ap (λ z. s.events ++ (z ++ (t.decls ++ t.outputs))) p.1 ∙ ap (λ z. s.events ++ (s.setups ++ (z ++ t.outputs))) d.1 ∙ ap (λ z. s.events ++ (s.setups ++ (s.decls ++ z))) o.1 ∙ sym s.whole,
+    )
 
 pub one_tree : (ts : List Token) (p q : ProgramTree) → HasTree p ts → HasTree q ts → p ≡ q
 one_tree ts p q h k = (one_program_tree q p k.cells h.cells k.spelled h.spelled (h.tokens ∙ sym k.tokens)).0

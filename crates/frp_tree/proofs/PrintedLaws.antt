@@ -1,11 +1,10 @@
 -- Laws on what is printed of an expression: it spells the expression, and is no worse than anything else that does.
-use Rattle.std.proofs.Common.{◌≡◌, ℕ, zero, suc, ◌+◌, ◌<◌, ◌≤◌, Bool, true, false, List, [], ◌∷◌, ◌++◌, length, map, codes, sum_by, nat_lt, if◌then◌else◌, refl, sym, ap, subst, ◌∙◌, arith}
+use Rattle.std.proofs.Common.{◌≡◌, ℕ, suc, ◌+◌, ◌≤◌, Bool, true, false, List, [], ◌∷◌, ◌++◌, length, codes, if◌then◌else◌, refl, sym, ap, subst, ◌∙◌, arith}
 use Rattle.std.specs.List.{AllByRecursion}
 use Rattle.std.proofs.lemmas.Bool.{ltb-true, ltb-false, le-ltb}
 use Rattle.std.proofs.lemmas.List.{map-append, length-append}
 use Rattle.std.proofs.lemmas.List.Sums.{sum_by-append}
 use Rattle.frp_tree.specs.declared.kinds.Kind.{Kind}
-use Rattle.frp_tree.specs.declared.limits.TheConstants.{MOST_ENTRIES_OF_A_TABLE}
 use Rattle.frp_tree.specs.declared.levels.Level.{Level}
 use Rattle.frp_tree.specs.declared.levels.Level.TheVariants as level
 use Rattle.frp_tree.specs.declared.marks.TheConstants as mark
@@ -14,10 +13,10 @@ use Rattle.frp_tree.specs.declared.tokens.Token.{Token}
 use Rattle.frp_tree.specs.declared.tokens.Token.TheVariants.{Word, Num, Mark}
 use Rattle.frp_tree.specs.Names.{type_name}
 use Rattle.frp_tree.specs.Tree.{Tree, Const, Name, Unary, Binary, Shift, If, Convert, Look}
-use Rattle.frp_tree.specs.Levels.{height, tighter, is_operand, repeats, level_of, mark_of, mark_of_shift, mark_of_sign}
+use Rattle.frp_tree.specs.Levels.{height, tighter, repeats, level_of, mark_of, mark_of_shift, mark_of_sign}
 use Rattle.frp_tree.specs.Cells.{Cell, plain, node, opening_node, opening, tokens_of, literal_token, count_of}
 use Rattle.frp_tree.specs.Grammar.{word, sign, SpellsExpr, literal, named, looked, brackets, signed, converted, chosen, shifted, joined, compared, alone}
-use Rattle.frp_tree.specs.Printed.{own, needs, wrapped, left_level, bare, shown}
+use Rattle.frp_tree.specs.Printed.{own, needs, wrapped, left_level, bare}
 use Rattle.frp_tree.proofs.LevelLaws.{loosen, tighter_height, height_at_most}
 
 -- The cells of what is printed, at a nesting.
@@ -212,7 +211,7 @@ whole_bare w e d h = subst (NoWorse w) (unneeded level.Whole e d (omega arith)) 
 binary_no_worse : (l : Level) (op : BinOp) (a b : Tree) (d : ℕ) (ts us : List Cell) → level_of op ≡ l → NoWorse ts (shown_cells (left_level l) a d) → NoWorse us (shown_cells (tighter l) b d) → NoWorse (ts ++ node (Mark (mark_of op)) ∷ us) (shown_cells l (Binary op a b) d)
 binary_no_worse l op a b d ts us o h k = subst (λ x. NoWorse (ts ++ node (Mark (mark_of op)) ∷ us) (shown_cells x (Binary op a b) d)) o
     (subst (NoWorse (ts ++ node (Mark (mark_of op)) ∷ us)) (sym (unneeded (level_of op) (Binary op a b) d (omega arith)))
-        (no_worse_append (subst (λ x. NoWorse ts (shown_cells (left_level x) a d)) (sym o) h) (no_worse_behind (node (Mark (mark_of op)) ∷ []) (subst (λ x. NoWorse us (shown_cells (tighter x) b d)) (sym o) k))))
+    (no_worse_append (subst (λ x. NoWorse ts (shown_cells (left_level x) a d)) (sym o) h) (no_worse_behind (node (Mark (mark_of op)) ∷ []) (subst (λ x. NoWorse us (shown_cells (tighter x) b d)) (sym o) k))))
 
 pub no_worse : {l : Level} {d : ℕ} {e : Tree} {w : List Cell} → SpellsExpr l d e w → NoWorse w (shown_cells l e d)
 no_worse literal = same_cells _

@@ -1,12 +1,10 @@
 -- Laws on what is printed of a program: it spells the program, and is no worse than anything else that does.
 use Rattle.std.proofs.Common.{◌≡◌, ℕ, suc, ◌≤◌, Bool, true, false, List, [], ◌∷◌, ◌++◌, length, map, codes, refl, sym, ap, subst, ◌∙◌, arith}
 use Rattle.std.specs.List.{flat_map}
-use Rattle.std.proofs.lemmas.List.{append_assoc}
 use Rattle.std.proofs.lemmas.List.Folds.{flat_map-map}
 use Rattle.std.proofs.lemmas.Grind.{flat_map-append}
 use Rattle.frp_tree.specs.declared.kinds.Kind.TheVariants.{Events, Setups, Definitions, Outputs}
 use Rattle.frp_tree.specs.declared.limits.TheConstants.{DEEPEST_NESTING, MOST_ENTRIES_OF_A_TABLE}
-use Rattle.frp_tree.specs.declared.levels.Level.TheVariants as level
 use Rattle.frp_tree.specs.declared.marks.TheConstants as mark
 use Rattle.frp_tree.specs.declared.syntax.Lit.{Lit}
 use Rattle.frp_tree.specs.declared.syntax.Event.{Event}
@@ -16,10 +14,10 @@ use Rattle.frp_tree.specs.declared.tokens.Token.TheVariants.{Word, Num, Mark}
 use Rattle.frp_tree.specs.Names.{type_name}
 use Rattle.frp_tree.specs.Limits.{most}
 use Rattle.frp_tree.specs.Tree.{ClauseTree, BehaviourTree, Plain, Input, Table, Reactive, DeclTree, OutputTree, ProgramTree}
-use Rattle.frp_tree.specs.Cells.{Cell, plain, starting, entry_cell, tokens_of, literal_token, IsWithinLimits}
-use Rattle.frp_tree.specs.Grammar.{word, sign, SpellsExpr, Row, none, next, SpellsEvent, SpellsSetup, later_cells, SpellsClause, more_entries, SpellsBehaviour, plainly, input, table, reactive, SpellsDecl, SpellsOutput, SpellsProgram, HasTree, HasTreeWithin}
-use Rattle.frp_tree.specs.Printed.{bare, event_item, setup_item, later_tokens, clause_tokens, more_entry_tokens, entry_tokens, behaviour_tokens, decl_item, output_item, items, printed_tokens}
-use Rattle.frp_tree.proofs.PrintedLaws.{bare_cells, tokens_append, tokens_join, bare_tokens, bare_spelled, whole_spelled, NoWorse, same_cells, no_worse_append, no_worse_behind, no_worse_before, whole_bare, no_worse}
+use Rattle.frp_tree.specs.Cells.{Cell, plain, starting, entry_cell, tokens_of, literal_token}
+use Rattle.frp_tree.specs.Grammar.{word, sign, Row, none, next, SpellsEvent, SpellsSetup, later_cells, SpellsClause, more_entries, SpellsBehaviour, plainly, input, table, reactive, SpellsDecl, SpellsOutput, SpellsProgram, HasTree, HasTreeWithin}
+use Rattle.frp_tree.specs.Printed.{bare, event_item, setup_item, later_tokens, clause_tokens, more_entry_tokens, entry_tokens, behaviour_tokens, decl_item, output_item, printed_tokens}
+use Rattle.frp_tree.proofs.PrintedLaws.{bare_cells, tokens_join, bare_tokens, bare_spelled, whole_spelled, NoWorse, same_cells, no_worse_append, no_worse_behind, no_worse_before, whole_bare, no_worse}
 
 -- The cells of what is printed.
 
@@ -97,7 +95,7 @@ items_tokens cells item h xs = row_tokens cells (λ x. ended (item x)) h xs ∙ 
 pub program_same : (p : ProgramTree) → tokens_of (program_cells p) ≡ printed_tokens p
 program_same p =
     tokens_join _ _ _ _ (items_tokens event_cells event_item (λ e. refl) p.events) (tokens_join _ _ _ _ (items_tokens setup_cells setup_item (λ s. refl) p.setups)
-        (tokens_join _ _ _ _ (items_tokens decl_cells decl_item decl_same p.decls) (items_tokens output_cells output_item output_same p.outputs)))
+    (tokens_join _ _ _ _ (items_tokens decl_cells decl_item decl_same p.decls) (items_tokens output_cells output_item output_same p.outputs)))
     ∙ sym (four (map event_item p.events) (map setup_item p.setups) (map decl_item p.decls) (map output_item p.outputs))
   where
     four : (a b c d : List (List Token)) → flat_map ended (a ++ (b ++ (c ++ d))) ≡ flat_map ended a ++ (flat_map ended b ++ (flat_map ended c ++ flat_map ended d))
@@ -156,8 +154,16 @@ better_program p w s =
     let o = better_row output_cells better_output s.spelled_outputs in
     record {
       spelled = record {
-        events = flat_map event_cells p.events; setups = flat_map setup_cells p.setups; decls = flat_map decl_cells p.decls; outputs = flat_map output_cells p.outputs;
-        spelled_events = e.spelled; spelled_setups = t.spelled; spelled_decls = d.spelled; spelled_outputs = o.spelled; whole = refl };
+        events = flat_map event_cells p.events;
+        setups = flat_map setup_cells p.setups;
+        decls = flat_map decl_cells p.decls;
+        outputs = flat_map output_cells p.outputs;
+        spelled_events = e.spelled;
+        spelled_setups = t.spelled;
+        spelled_decls = d.spelled;
+        spelled_outputs = o.spelled;
+        whole = refl;
+      };
       no_worse = subst (λ x. NoWorse x (program_cells p)) (sym s.whole) (no_worse_append e.no_worse (no_worse_append t.no_worse (no_worse_append d.no_worse o.no_worse)));
     }
 

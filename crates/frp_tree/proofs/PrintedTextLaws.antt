@@ -1,5 +1,5 @@
 -- Laws on the text that is printed of a program: it spells the program, if any text does.
-use Rattle.std.proofs.Common.{◌≡◌, ℕ, ◌≤◌, Bool, true, false, List, [], ◌∷◌, ◌++◌, length, refl, sym, subst, arith}
+use Rattle.std.proofs.Common.{ℕ, ◌≤◌, Bool, false, List, [], ◌∷◌, ◌++◌, length, sym, subst}
 use Rattle.std.specs.List.{AllByRecursion, flat_map}
 use Rattle.frp_tree.specs.declared.marks.TheConstants.{SEMICOLON}
 use Rattle.frp_tree.specs.declared.tokens.Token.{Token}
@@ -44,9 +44,10 @@ back_writable (t ∷ v) w h = back_writable v w h.1
 
 items_writable : (rows : List (List Token)) → AreWritable (flat_map (λ item. item ++ Mark SEMICOLON ∷ []) rows) → AllByRecursion AreWritable rows
 items_writable [] h = tt
-items_writable (item ∷ rows) h =
-    (front_writable item (Mark SEMICOLON ∷ []) (front_writable (item ++ Mark SEMICOLON ∷ []) (flat_map (λ i. i ++ Mark SEMICOLON ∷ []) rows) h),
-     items_writable rows (back_writable (item ++ Mark SEMICOLON ∷ []) (flat_map (λ i. i ++ Mark SEMICOLON ∷ []) rows) h))
+items_writable (item ∷ rows) h = (
+  front_writable item (Mark SEMICOLON ∷ []) (front_writable (item ++ Mark SEMICOLON ∷ []) (flat_map (λ i. i ++ Mark SEMICOLON ∷ []) rows) h),
+  items_writable rows (back_writable (item ++ Mark SEMICOLON ∷ []) (flat_map (λ i. i ++ Mark SEMICOLON ∷ []) rows) h),
+)
 
 all_within : (ts : List Token) → AreWritable ts → AllByRecursion IsWithin ts
 all_within [] h = tt

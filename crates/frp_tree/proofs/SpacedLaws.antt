@@ -1,5 +1,5 @@
 -- Laws on the text of tokens with blanks between them: it is cut into these tokens.
-use Rattle.std.proofs.Common.{◌≡◌, ◌≢◌, ℕ, ◌+◌, ◌-◌, ◌*◌, ◌^◌, ◌<◌, ◌≤◌, Bool, true, false, not, ◌&&◌, ◌||◌, ◌==◌, nat_le, nat_lt, List, [], ◌∷◌, ◌++◌, length, get_or, map, Some, codes, slice_get, inl, inr, IsTrue, refl, sym, ap, subst, ◌∙◌, arith}
+use Rattle.std.proofs.Common.{◌≡◌, ◌≢◌, ℕ, ◌+◌, ◌-◌, ◌*◌, ◌^◌, ◌<◌, ◌≤◌, Bool, true, false, not, ◌&&◌, ◌==◌, nat_le, nat_lt, List, [], ◌∷◌, ◌++◌, length, get_or, Some, codes, slice_get, inl, refl, sym, ap, subst, ◌∙◌, arith}
 use Rattle.std.specs.List.{AllByRecursion, list_all, flat_map}
 use Rattle.std.specs.Fmt.{decimal}
 use Rattle.std.proofs.lemmas.Bool.{and_parts, and_from, false≢true, leb-true, ltb-true, lt-ltb, le-leb}
@@ -8,16 +8,16 @@ use Rattle.std.proofs.lemmas.List.{append_assoc}
 use Rattle.std.proofs.lemmas.Option.{slice_get-get_or, slice_get_within}
 use Rattle.std.proofs.lemmas.Fmt.{digits_decimal, digits_value-decimal, decimal_nonempty}
 use Rattle.std.proofs.lemmas.Str.Parse.{IsNumeralModel, numerals_by_fold, IsDigitsTest, FoldsDigits}
-use Rattle.text_parts.specs.Bytes.{is_digit, is_letter, is_hex_digit, begins}
+use Rattle.text_parts.specs.Bytes.{is_digit, is_letter, begins}
 use Rattle.text_parts.specs.Names.{has_form_of_name}
 use Rattle.text_parts.specs.Numbers.{IsNumber, value_after, digit_value}
 use Rattle.frp_tree.specs.declared.tokens.Token.{Token}
 use Rattle.frp_tree.specs.declared.tokens.Token.TheVariants as token
 use Rattle.frp_tree.specs.declared.marks.TheConstants.{SEMICOLON}
-use Rattle.frp_tree.specs.Tokens.{marks, is_blank, IsLexeme, IsLongest, is_number_token, starts_word, starts_comment, Cuts, here, blank, comment, lexeme, IsWithin}
+use Rattle.frp_tree.specs.Tokens.{marks, is_blank, IsLexeme, IsLongest, starts_comment, Cuts, here, blank, lexeme, IsWithin}
 use Rattle.frp_tree.specs.Prefixes.{IsLongestNumber}
 use Rattle.frp_tree.specs.Printed.{spelling, spaced, line}
-use Rattle.frp_tree.proofs.LexemeLaws.{is_word_byte, Begins, word_begins, mark_begins, mark_length, all_at, lexeme_begins, start_of}
+use Rattle.frp_tree.proofs.LexemeLaws.{is_word_byte, Begins, word_begins, mark_begins, mark_length, all_at, lexeme_begins}
 use Rattle.frp_tree.proofs.LongestLaws.{word_longest, decimal_longest, number_longest, wide_longest, two_longest, one_longest}
 
 -- Decimal digits.
@@ -171,5 +171,5 @@ lines_cut [] h = here
 lines_cut (item ∷ items) h =
     let semicolon : Cuts false (59 ∷ 10 ∷ flat_map line items) (token.Mark SEMICOLON ∷ flat_map (λ i. i ++ token.Mark SEMICOLON ∷ []) items) false [] = gap_cut (token.Mark SEMICOLON) 10 (flat_map line items) line_feed refl (lines_cut items h.1) in
     subst (λ x. Cuts false x ((item ++ token.Mark SEMICOLON ∷ []) ++ flat_map (λ i. i ++ token.Mark SEMICOLON ∷ []) items) false []) (sym (append_assoc (spaced item) (59 ∷ 10 ∷ []) (flat_map line items)))
-        (subst (λ x. Cuts false (spaced item ++ 59 ∷ 10 ∷ flat_map line items) x false []) (sym (append_assoc item (token.Mark SEMICOLON ∷ []) (flat_map (λ i. i ++ token.Mark SEMICOLON ∷ []) items)))
-            (spaced_cut item (59 ∷ 10 ∷ flat_map line items) h.0 semicolon))
+    (subst (λ x. Cuts false (spaced item ++ 59 ∷ 10 ∷ flat_map line items) x false []) (sym (append_assoc item (token.Mark SEMICOLON ∷ []) (flat_map (λ i. i ++ token.Mark SEMICOLON ∷ []) items)))
+    (spaced_cut item (59 ∷ 10 ∷ flat_map line items) h.0 semicolon))

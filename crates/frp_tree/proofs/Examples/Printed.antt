@@ -1,12 +1,12 @@
 -- What is printed of some trees, with brackets where they are needed, and of a small program.
-use Rattle.std.specs.Prelude.{◌≡◌, ℕ, List, [], ◌∷◌, ◌++◌, codes, true, false, refl}
+use Rattle.std.specs.Prelude.{◌≡◌, [], ◌∷◌, codes, true, false, refl}
 use Rattle.std.specs.Fmt.{digits}
 use Rattle.frp_tree.specs.declared.syntax.Ty.TheVariants as ty
 use Rattle.frp_tree.specs.declared.syntax.Lit.TheVariants as lit
 use Rattle.frp_tree.specs.declared.syntax.UnOp.TheVariants.{Com, Not}
 use Rattle.frp_tree.specs.declared.syntax.BinOp.TheVariants as binary
 use Rattle.frp_tree.specs.declared.syntax.Side.TheVariants.{Left, Right}
-use Rattle.frp_tree.specs.Tree.{Tree, Const, Name, Unary, Binary, Shift, If, Convert, Look, ClauseTree, Plain, Input, Table, Reactive, DeclTree, ProgramTree}
+use Rattle.frp_tree.specs.Tree.{Tree, Const, Name, Unary, Binary, Shift, If, Convert, Look, Input, Table, Reactive, ProgramTree}
 use Rattle.frp_tree.specs.Printed.{bare, spaced, decl_item, line, printed}
 
 abbrev a : Tree

@@ -1,4 +1,4 @@
-use Rattle.std.proofs.Common.{[], length, arith, sym}
+use Rattle.std.proofs.Common.{[], arith, sym}
 use Rattle.std.proofs.lemmas.List.{get_or_past}
 use Rattle.frp_tree.specs.Tokens.{marks}
 use Rattle.efrp_syntax.proofs.backward.mark_text.Goals as goal

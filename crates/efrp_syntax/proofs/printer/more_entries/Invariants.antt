@@ -1,4 +1,4 @@
-use Rattle.std.proofs.Common.{◌≡◌, ◌++◌, length, map}
+use Rattle.std.proofs.Common.{◌≡◌, ◌++◌, length}
 use Rattle.std.specs.List.{flat_map}
 use Rattle.frp_tree.specs.Printed.{more_entry_tokens, spaced}
 use Rattle.efrp_syntax.proofs.printer.more_entries.Given as goal
