@@ -1,5 +1,5 @@
 // Programs are printed with the fewest brackets and a line for each item.
-use efrp_syntax::{fewest_brackets, one_program, one_tree, print};
+use efrp_syntax::{fewest_brackets, one_program, one_tree, parse, print, print_and_parse};
 use frp_tree::{
     Behaviour, BinOp, Clause, Decl, Event, Expr, List, Lit, Output, Program, Setup, Side, Text, Ty,
     UnOp,
@@ -131,6 +131,17 @@ fn chosen(alloc: Global) -> Result<Vec<Expr>, Fail> {
     exprs.push(Expr::Look(table, Box::new(alloc, name(alloc, "a")?)?))?;
     exprs.push(Expr::Convert(Ty::U16, Box::new(alloc, Expr::Const(Lit::Wide(500)))?))?;
     Ok(exprs)
+}
+
+#[test]
+fn read_and_printed_again(rt: HostRuntime) -> Result<(), Fail> {
+    let text = b"let a : u8 = (x) + ((y * 2)); // a comment\noutput P = ((a) - (b - 0x10w));";
+    let program = parse(rt.alloc(), text)?;
+    let again = print_and_parse(rt.alloc(), &program)?;
+    let printed = print(rt.alloc(), &again)?;
+    let lines: &[u8] = b"let a : u8 = x + y * 2 ;\noutput P = a - ( b - 16w ) ;\n";
+    assert!(rt; printed.as_slice() == lines);
+    Ok(())
 }
 
 #[test]
