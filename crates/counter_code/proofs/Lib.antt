@@ -11,7 +11,7 @@ pub mod ListedFacts
 pub mod ListsRightlyFacts
 pub mod MapLaws
 pub mod NamesFacts
-pub mod OneProgramFacts
+pub mod OneCounterFacts
 pub mod PlaceCoreFacts
 pub mod PlaceFacts
 pub mod PlaceRunFacts

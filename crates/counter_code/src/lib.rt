@@ -11,4 +11,4 @@ mod counters;
 mod laws;
 
 pub use counters::{Counter, SetupAt};
-pub use laws::{keeps_promises, one_program, settles};
+pub use laws::{keeps_promises, one_counter, settles};

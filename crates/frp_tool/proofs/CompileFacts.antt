@@ -19,15 +19,15 @@ unread_works Good r a b (Said due line) keeps (fault, cause, is, said) = (NoProg
 unread_works Good r a b PutFailed keeps gives = gives
 unread_works Good r a b Memory keeps gives = inl (inl keeps)
 
-module _ (r : CompileRequest) (a b c : FilesSeen) (f : Firmware) (spells : SourceSpells r.source a f.counter) (keeps : KeepsFiles a b) (fewer : a.write_faults ≤ b.write_faults) where
+module _ (r : CompileRequest) (a b c : FilesSeen) (f : Firmware) (spells : SourceSpells r.source a f.program) (keeps : KeepsFiles a b) (fewer : a.write_faults ≤ b.write_faults) where
   -- HEX wasn't written.
   pub hex_works : (bytes : List ℕ) (e : Halt) → Stores b c r.hex bytes (Err e) → CompileWorks r a c (Err e)
   hex_works bytes (Said due line) ((rose, left), is, said) =
-      (HexFailed f.counter, ((spells, omega (arith, rose)), chain a b c _ _ _ (λ old mid new h k other differs. k other differs ∙ h other) keeps left), is, said)
+      (HexFailed f.program, ((spells, omega (arith, rose)), chain a b c _ _ _ (λ old mid new h k other differs. k other differs ∙ h other) keeps left), is, said)
   hex_works bytes PutFailed stores = stores
   hex_works bytes Memory (inl kept) = inl (inl (keeps_trans a b c keeps kept))
   hex_works bytes Memory (inr (rose, left)) =
-      inr (HexFailed f.counter, ((spells, omega (arith, rose)), chain a b c _ _ _ (λ old mid new h k other differs. k other differs ∙ h other) keeps left))
+      inr (HexFailed f.program, ((spells, omega (arith, rose)), chain a b c _ _ _ (λ old mid new h k other differs. k other differs ∙ h other) keeps left))
 
   module _ (d : FilesSeen) (hex : List ℕ) (is_hex : hex ≡ f.hex) (stored : Stores b c r.hex hex (Ok tt)) (fewer' : b.write_faults ≤ c.write_faults) (apart : r.hex ≢ r.map) where
     hex_left : BothTold a c (λ old new. Replaces old new r.hex hex)

@@ -1,5 +1,7 @@
 pub mod CompileFacts
 pub mod CompileLaws
+pub mod CounterPartFacts
+pub mod FirstFormFacts
 pub mod PromiseLaws
 pub mod ReadingFacts
 pub mod RunEndingFacts

@@ -1,5 +1,5 @@
 -- What is promised of `compile SRC HEX MAP`.
-use Rattle.std.specs.Prelude.{◌≡◌, ℕ, ◌<◌, List, length, Option, Some, None, Result, Ok, Err, String, string_bytes, codes, ◌⊎◌}
+use Rattle.std.specs.Prelude.{◌≡◌, ℕ, ◌<◌, ◌≤◌, List, length, Option, Some, None, Result, Ok, Err, String, string_bytes, codes, ◌⊎◌}
 use Rattle.std.specs.declared.alloc.Global.{Global}
 use Rattle.edge_io.specs.declared.outside.TheConstants.{LONGEST_FILE}
 use Rattle.edge_io.specs.Files.{Held, FilesSeen, SameOthers, BothTold, IfTold, KeepsFiles}
@@ -8,14 +8,16 @@ use Rattle.edge_io.specs.Counts.{Rose}
 use Rattle.map_file.specs.declared.maps.Map.{Map}
 use Rattle.map_file.specs.MapText.{map_text}
 use Rattle.firmware_promises.specs.Firmware.{IsFirmware}
+use Rattle.frp_tree.specs.Tree.{ProgramTree}
+use Rattle.frp_tree.specs.Grammar.{Spells}
 use Rattle.counter_code.specs.declared.counters.Counter.{Counter}
-use Rattle.counter_code.specs.Counters.{Spells, program_of}
+use Rattle.counter_code.specs.Counters.{HasFirstForm, program_of}
 use Rattle.frp_tool.specs.declared.halts.Halt.{Halt}
 use Rattle.frp_tool.specs.declared.halts.Halt.TheVariants as halt
 use Rattle.frp_tool.specs.Lines.{named_line, summary}
 use Rattle.frp_tool.specs.Outsides.{Outside}
 use Rattle.frp_tool.specs.Endings.{Ends, DueOrYielded}
-use Rattle.frp_tool.specs.SourceTexts.{OfSource, SourceSpells, SourceFault, source_status, source_line, SourceCause}
+use Rattle.frp_tool.specs.SourceTexts.{Reading, Reads, IsRead, HasNoForm, refusal_line, OfSource, SourceSpells, SourceFault, source_status, source_line, SourceCause}
 use Rattle.frp_tool.specs.Writes.{Has, SameButTwo}
 
 -- The names that `compile` is given.
@@ -24,41 +26,41 @@ pub record CompileRequest : Type 0 where
   pub hex : List ℕ
   pub map : List ℕ
 
--- What `compile` makes of the program that a counter stands for: the bytes of HEX, and a map, whose text is written to MAP.
--- The bytes and the text are firmware for the program.
+-- What `compile` makes of a program: the bytes of HEX, and a map, whose text is written to MAP. The bytes and the text are
+-- firmware for the program.
 pub record Firmware : Type 0 where
-  pub counter : Counter
+  pub program : ProgramTree
   pub hex : List ℕ
   pub map : Map
-  pub is_firmware : IsFirmware (program_of counter) hex (map_text map)
+  pub is_firmware : IsFirmware program hex (map_text map)
 
--- What a `compile` comes to: the source gives no program; its HEX wasn't written; its map wasn't written; all was done.
+-- What a `compile` comes to: the source gives no program of the first form; its HEX wasn't written; its map wasn't written; all was done.
 pub data CompileVerdict : Type 0 where
   NoProgram : SourceFault → CompileVerdict
-  HexFailed : Counter → CompileVerdict
+  HexFailed : ProgramTree → CompileVerdict
   MapFailed : Firmware → CompileVerdict
   Done : Firmware → CompileVerdict
 
 -- The status that is due.
 abbrev pub compile_status : CompileVerdict → ℕ
 compile_status (NoProgram fault) = source_status fault
-compile_status (HexFailed c) = 5
+compile_status (HexFailed p) = 5
 compile_status (MapFailed f) = 5
 compile_status (Done f) = 0
 
 -- The line that is to be put.
 abbrev pub compile_line : CompileRequest → CompileVerdict → List ℕ
 compile_line r (NoProgram fault) = source_line r.source fault
-compile_line r (HexFailed c) = named_line (codes "write failed: ") r.hex
+compile_line r (HexFailed p) = named_line (codes "write failed: ") r.hex
 compile_line r (MapFailed f) = named_line (codes "write failed: ") r.map
-compile_line r (Done f) = summary f.map (program_of f.counter)
+compile_line r (Done f) = summary f.map f.program
 
 -- Why a verdict comes.
 abbrev pub CompileCause : CompileRequest → FilesSeen → FilesSeen → CompileVerdict → Type 0
 CompileCause r before after (NoProgram fault) = SourceCause r.source before after fault
-CompileCause r before after (HexFailed c) = SourceSpells r.source before c × Rose before.write_faults after.write_faults
-CompileCause r before after (MapFailed f) = SourceSpells r.source before f.counter × Rose before.write_faults after.write_faults
-CompileCause r before after (Done f) = SourceSpells r.source before f.counter
+CompileCause r before after (HexFailed p) = SourceSpells r.source before p × Rose before.write_faults after.write_faults
+CompileCause r before after (MapFailed f) = SourceSpells r.source before f.program × Rose before.write_faults after.write_faults
+CompileCause r before after (Done f) = SourceSpells r.source before f.program
 
 -- HEX holds its bytes of the firmware, and MAP the text of the map.
 abbrev pub HexIsWhole : CompileRequest → Held → Firmware → Type 0
@@ -74,7 +76,7 @@ OthersAsBefore r old new = SameButTwo old new r.hex r.map
 -- The files that a verdict leaves. After a failed write the file of that name holds anything.
 abbrev pub CompileLeft : CompileRequest → FilesSeen → FilesSeen → CompileVerdict → Type 0
 CompileLeft r before after (NoProgram fault) = KeepsFiles before after
-CompileLeft r before after (HexFailed c) = BothTold before after (λ old new. SameOthers old new r.hex)
+CompileLeft r before after (HexFailed p) = BothTold before after (λ old new. SameOthers old new r.hex)
 CompileLeft r before after (MapFailed f) = BothTold before after (λ old new. HexIsWhole r new f × OthersAsBefore r old new)
 CompileLeft r before after (Done f) = BothTold before after (λ old new. HexIsWhole r new f × MapIsWhole r new f × OthersAsBefore r old new)
 
@@ -86,7 +88,7 @@ CompileComes r before after v = CompileCause r before after v × CompileLeft r b
 abbrev pub CompileCut : CompileRequest → FilesSeen → FilesSeen → Type 0
 CompileCut r before after =
     KeepsFiles before after
-    ⊎ ((f : Firmware) × SourceSpells r.source before f.counter × BothTold before after (λ old new. HexIsWhole r new f × SameOthers old new r.hex))
+    ⊎ ((f : Firmware) × SourceSpells r.source before f.program × BothTold before after (λ old new. HexIsWhole r new f × SameOthers old new r.hex))
 
 -- What the work of a `compile` comes to before its line is put: a verdict, of which `Done` alone is no halt; or memory ran
 -- out, before there was a verdict or behind it.
@@ -108,14 +110,24 @@ Compiles r before after status =
 -- are firmware for it, those of MAP being the text of a map; all other files are as before; and the summary of that map was
 -- put.
 abbrev pub CompileDone : CompileRequest → Outside → Outside → Type 0
-CompileDone r before after = (c : Counter) × SourceSpells r.source before.files c
-    × (hex : List ℕ) × (m : Map) × IsFirmware (program_of c) hex (map_text m)
+CompileDone r before after = (p : ProgramTree) × SourceSpells r.source before.files p
+    × (hex : List ℕ) × (m : Map) × IsFirmware p hex (map_text m)
     × BothTold before.files after.files (λ old new. Has new r.hex hex × Has new r.map (map_text m) × OthersAsBefore r old new)
-    × Appends before.out.taken after.out.taken (summary m (program_of c))
+    × Appends before.out.taken after.out.taken (summary m p)
 
--- 1 comes only where the source is too long or spells no program of the first form, where files are told.
-abbrev pub CompileRefuses : CompileRequest → Outside → Type 0
-CompileRefuses r before = OfSource r.source before.files (λ text. (LONGEST_FILE < length text) ⊎ ((c : Counter) → Spells text c → ⊥))
+-- 1 comes only where the source is too long, or is read as no program of the first form, where files are told. In the second
+-- case the line was put that says why.
+abbrev pub CompileRefuses : CompileRequest → Outside → Outside → Type 0
+CompileRefuses r before after =
+    OfSource r.source before.files (λ text. LONGEST_FILE < length text)
+    ⊎ ((reading : Reading) × OfSource r.source before.files (λ text. IsRead text reading) × HasNoForm reading × Appends before.out.taken after.out.taken (refusal_line reading))
+
+-- Where files are told, the source is short enough to be read, it has a fault or spells a program that hasn't the first form,
+-- and no read fault is counted: the status is 1 and the line is put that says why, or it is 5 or 6.
+abbrev pub CompileTells : CompileRequest → Outside → Outside → ℕ → Type 0
+CompileTells r before after status = (held : Held) (text : List ℕ) (reading : Reading) → before.files.told ≡ Some held → held r.source ≡ Some text → length text ≤ LONGEST_FILE
+    → Reads text reading → HasNoForm reading → (Rose before.files.read_faults after.files.read_faults → ⊥)
+    → Ends before.out after.out 1 (refusal_line reading) status
 
 -- 3 comes exactly where the source isn't held, where files are told.
 abbrev pub CompileMisses : CompileRequest → Outside → ℕ → Type 0
@@ -124,7 +136,7 @@ CompileMisses r before status =
 
 -- Where files are told, the source spells a program of the first form, and no fault is counted, the status is 0 or 6.
 abbrev pub CompileCompletes : CompileRequest → Outside → Outside → ℕ → Type 0
-CompileCompletes r before after status = (held : Held) (text : List ℕ) (c : Counter) → before.files.told ≡ Some held → held r.source ≡ Some text → Spells text c
+CompileCompletes r before after status = (held : Held) (text : List ℕ) (p : ProgramTree) → before.files.told ≡ Some held → held r.source ≡ Some text → Spells text p → HasFirstForm p
     → (Rose before.files.read_faults after.files.read_faults → ⊥) → (Rose before.files.write_faults after.files.write_faults → ⊥) → (Rose before.out.put_faults after.out.put_faults → ⊥)
     → (status ≡ 0) ⊎ (status ≡ 6)
 
@@ -133,7 +145,8 @@ CompileCompletes r before after status = (held : Held) (text : List ℕ) (c : Co
 pub record CompilePromises (r : CompileRequest) (before after : Outside) (status : ℕ) : Type 0 where
   pub ends : Compiles r before after status
   pub done : status ≡ 0 → CompileDone r before after
-  pub one : status ≡ 1 → CompileRefuses r before
+  pub one : status ≡ 1 → CompileRefuses r before after
+  pub told : CompileTells r before after status
   pub three : CompileMisses r before status
   pub files : BothTold before.files after.files (OthersAsBefore r)
   pub complete : CompileCompletes r before after status

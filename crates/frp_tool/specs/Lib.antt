@@ -1,6 +1,6 @@
 pub mod Compiles
+pub mod CounterParts
 pub mod Endings
-pub mod Items
 pub mod Lines
 pub mod Outsides
 pub mod Promises

@@ -1,5 +1,6 @@
 // The lines of faults, as they are put.
 ghost use Rattle.std.specs.Prelude.{◌≡◌, ◌≢◌, IfOk, string_bytes};
+ghost use Rattle.frp_tool.specs.Lines.{kind_word, syntax_line};
 ghost use Rattle.frp_tool.specs.RunLines.{
   hex_line_at,
   hex_line,
@@ -11,9 +12,45 @@ ghost use Rattle.frp_tool.specs.RunLines.{
 };
 
 use arrival_script::Cause;
+use efrp_syntax::{Kind, SyntaxFault};
 use hex_file::HexFault;
 use pic_machine::Why;
 use std::alloc::{AllocError, Global};
+
+// The word for what a program has too many of.
+fn kind_word(kind: Kind) -> &'static str
+    ensures { result.now ≡ kind_word kind }
+{
+    match kind {
+        Kind::Events => "events",
+        Kind::Setups => "setups",
+        Kind::Definitions => "definitions",
+        Kind::Outputs => "outputs",
+        Kind::Nodes => "nodes",
+        Kind::Entries => "entries",
+    }
+}
+
+fn many_line(alloc: Global, kind: Kind) -> Result<String, AllocError>
+    ensures { IfOk result (λ text. string_bytes text ≡ syntax_line (SyntaxFault.TooMany kind)) }
+{
+    let word = kind_word(kind);
+    format!(in alloc; "refused: many {word}\n")
+}
+
+/// The line of a text's fault. Where memory ran out, which has no line, there is an `Err` too.
+pub fn syntax_line(alloc: Global, fault: SyntaxFault) -> Result<String, AllocError>
+    ensures { IfOk result (λ line. (fault ≢ SyntaxFault.Memory) × (string_bytes line ≡ syntax_line fault)) }
+{
+    match fault {
+        SyntaxFault::BadByte(place) => format!(in alloc; "refused: byte {place}\n"),
+        SyntaxFault::TooBig(place) => format!(in alloc; "refused: big {place}\n"),
+        SyntaxFault::Unexpected(tokens) => format!(in alloc; "refused: unexpected {tokens}\n"),
+        SyntaxFault::TooDeep(token) => format!(in alloc; "refused: deep {token}\n"),
+        SyntaxFault::TooMany(kind) => many_line(alloc, kind),
+        SyntaxFault::Memory => Err(AllocError),
+    }
+}
 
 // A line on a line of a HEX file.
 fn hex_line_at(alloc: Global, line: u32, rest: &str) -> Result<String, AllocError>

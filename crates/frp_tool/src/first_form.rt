@@ -1,100 +1,98 @@
-// A program of the first form, read from tokens.
-ghost use Rattle.std.specs.Prelude.{◌≡◌, ◌≢◌, List, Option as Options, [], ◌∷◌, ◌++◌, IfOk, IfSome, IsTrue, ◌↔◌, MatchOption, codes};
-ghost use Rattle.std.specs.List.{AllByRecursion};
-ghost use Rattle.frp_tree.specs.declared.tokens.Token.{Token as Tokens};
-ghost use Rattle.frp_tree.specs.declared.tokens.Token.TheVariants as token;
-ghost use Rattle.counter_code.specs.declared.counters.Counter.{Counter as Counters};
-ghost use Rattle.counter_code.specs.declared.counters.SetupAt.{SetupAt as Setups};
-ghost use Rattle.counter_code.specs.Counters.{IsCounter, IsSetup, optional_setup_tokens, tokens_of};
-ghost use Rattle.frp_tool.specs.Items.{IsWellFormed, setup_of};
+// The counter whose program a tree is.
+ghost use Rattle.std.specs.Prelude.{◌≡◌, ◌≢◌, ℕ, List, IfOk, IsTrue, MatchOption, ◌↔◌};
+ghost use Rattle.frp_tree.specs.Grammar.{Spells};
+ghost use Rattle.frp_tree.specs.Tree.{program_tree_of};
+ghost use Rattle.counter_code.specs.Counters.{HasFirstForm, IsCounter, program_of};
+ghost use Rattle.frp_tool.specs.CounterParts.{counter_of, setup_of};
 
-use crate::items::{
-    ClauseItem, DeclItem, EventItem, OutputItem, SetupItem, clause_item, decl_item, event_item,
-    output_item, setup_item,
+use crate::counter_parts::{
+    DeclPart, EventPart, SetupPart, decl_in, event_in, output_in, setup_in,
 };
-use crate::phrases::after_word;
 use counter_code::{Counter, SetupAt};
-use frp_tree::Token;
+use frp_tree::{Program, Text};
+use pic_isa::Source;
 use std::alloc::{AllocError, Global};
 
-// The setup that may stand before a definition, and what follows it.
-fn optional_setup<'a>(tokens: &'a [Token]) -> Option<(Option<SetupItem<'a>>, &'a [Token])>
-    // A setup is refused only where no other stands before a definition.
-    ensures none { MatchOption result
-        ((setup : Options Setups) (rest : List Tokens) → IfSome setup IsSetup → tokens.now ≢ optional_setup_tokens setup ++ token.Word (codes "let") ∷ rest)
-        (λ found. (setup : Options Setups) (rest : List Tokens) → IfSome setup IsSetup → tokens.now ≡ optional_setup_tokens setup ++ token.Word (codes "let") ∷ rest → found.1.now ≡ token.Word (codes "let") ∷ rest) }
-    ensures found { IfSome result (λ found. IfSome (setup_of found.0) IsSetup × (tokens.now ≡ optional_setup_tokens (setup_of found.0) ++ found.1.now)) }
-{
-    let Some(_) = after_word(tokens, "setup") else {
-        return Some((None, tokens));
-    };
-    let Some((item, rest)) = setup_item(tokens) else {
-        return None;
-    };
-    Some((Some(item), rest))
+/// A counter, whose names lie in the tree that it was found in.
+#[derive(Clone, Copy, Debug)]
+pub struct CounterPart<'a> {
+    pub event: &'a Text,
+    pub source: Source,
+    pub priority: u8,
+    pub setup: Option<SetupPart<'a>>,
+    pub name: &'a Text,
+    pub init: u8,
+    pub step: u8,
+    pub port: u8,
 }
 
-// Whether the parts of a program speak of one event and one definition, which have different names.
-fn agree(
-    event: &EventItem<'_>,
-    decl: &DeclItem<'_>,
-    clause: &ClauseItem<'_>,
-    output: &OutputItem<'_>,
-) -> bool
-    ensures { IsTrue result ↔ ((event.now.name.now ≢ decl.now.name.now) × (clause.now.event.now ≡ event.now.name.now) × (clause.now.name.now ≡ decl.now.name.now) × (output.now.name.now ≡ decl.now.name.now)) }
+// Whether the definition counts the event under another name, and the output is the definition.
+fn agree(event: &EventPart<'_>, decl: &DeclPart<'_>, shown: &Text) -> bool
+    ensures { IsTrue result ↔ ((event.now.name.now ≢ decl.now.name.now) × (decl.now.event.now ≡ event.now.name.now) × (shown.now ≡ decl.now.name.now)) }
 {
     event.name.as_str() != decl.name.as_str()
-        && clause.event.as_str() == event.name.as_str()
-        && clause.name.as_str() == decl.name.as_str()
-        && output.name.as_str() == decl.name.as_str()
+        && decl.event.as_str() == event.name.as_str()
+        && shown.as_str() == decl.name.as_str()
 }
 
-fn setup_at(alloc: Global, setup: Option<SetupItem<'_>>) -> Result<Option<SetupAt>, AllocError>
-    ensures { IfOk result (λ copied. copied ≡ setup_of setup.entry) }
+// The counter whose program a tree is. A text spells the tree.
+fn counter_in<'a>(program: &'a Program) -> Option<CounterPart<'a>>
+    requires { (text : List ℕ) × Spells text (program_tree_of program.now) }
+    ensures { MatchOption result
+        (HasFirstForm (program_tree_of program.now) → ⊥)
+        (λ found. IsCounter (counter_of found) × (program_tree_of program.now ≡ program_of (counter_of found))) }
+{
+    let event = event_in(program.events.as_slice())?;
+    let setup = setup_in(program.setups.as_slice())?;
+    let decl = decl_in(program.decls.as_slice())?;
+    let (port, shown) = output_in(program.outputs.as_slice())?;
+    if !agree(&event, &decl, shown) {
+        return None;
+    }
+    Some(CounterPart {
+        event: event.name,
+        source: event.source,
+        priority: event.priority,
+        setup,
+        name: decl.name,
+        init: decl.init,
+        step: decl.step,
+        port,
+    })
+}
+
+fn copied(alloc: Global, setup: Option<SetupPart<'_>>) -> Result<Option<SetupAt>, AllocError>
+    ensures { IfOk result (λ copy. copy ≡ setup_of setup.entry) }
 {
     match setup {
         None => Ok(None),
-        Some(item) => Ok(Some(SetupAt {
-            register: item.register.copy(alloc)?,
-            address: item.address,
-            byte: item.byte,
+        Some(part) => Ok(Some(SetupAt {
+            register: part.register.copy(alloc)?,
+            address: part.address,
+            byte: part.byte,
         })),
     }
 }
 
-/// The program of the first form that tokens spell, or None where they spell none. An `Err` says that memory ran out.
-pub fn counter(alloc: Global, tokens: &[Token]) -> Result<Option<Counter>, AllocError>
-    requires { AllByRecursion IsWellFormed tokens.now }
+/// The counter whose program a tree is, and None exactly where the tree hasn't the first form. A text spells the tree.
+/// An `Err` says that memory ran out.
+pub fn first_form(alloc: Global, program: &Program) -> Result<Option<Counter>, AllocError>
+    requires { (text : List ℕ) × Spells text (program_tree_of program.now) }
     ensures { IfOk result (λ found. MatchOption found
-        ((c : Counters) → IsCounter c → tokens.now ≢ tokens_of c)
-        (λ c. IsCounter c × (tokens.now ≡ tokens_of c))) }
+        (HasFirstForm (program_tree_of program.now) → ⊥)
+        (λ c. IsCounter c × (program_tree_of program.now ≡ program_of c))) }
 {
-    let Some((event, rest)) = event_item(tokens) else {
+    let Some(part) = counter_in(program) else {
         return Ok(None);
     };
-    let Some((setup, rest)) = optional_setup(rest) else {
-        return Ok(None);
-    };
-    let Some((decl, rest)) = decl_item(rest) else {
-        return Ok(None);
-    };
-    let Some((clause, rest)) = clause_item(rest) else {
-        return Ok(None);
-    };
-    let Some((output, rest)) = output_item(rest) else {
-        return Ok(None);
-    };
-    if !rest.is_empty() || !agree(&event, &decl, &clause, &output) {
-        return Ok(None);
-    }
     Ok(Some(Counter {
-        event: event.name.copy(alloc)?,
-        source: event.source,
-        priority: event.priority,
-        setup: setup_at(alloc, setup)?,
-        name: decl.name.copy(alloc)?,
-        init: decl.init,
-        step: clause.step,
-        port: output.port,
+        event: part.event.copy(alloc)?,
+        source: part.source,
+        priority: part.priority,
+        setup: copied(alloc, part.setup)?,
+        name: part.name.copy(alloc)?,
+        init: part.init,
+        step: part.step,
+        port: part.port,
     }))
 }

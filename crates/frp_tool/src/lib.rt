@@ -7,12 +7,11 @@
 #![tactic(auto)]
 
 mod compiles;
+mod counter_parts;
 mod fault_lines;
 mod first_form;
 mod halts;
 mod inputs;
-mod items;
-mod phrases;
 mod reads;
 mod requests;
 mod runs;
