@@ -10,6 +10,10 @@ let n : u8 = init 0 in { Tick => n + 1; };
 output PORTB = n;
 ";
 
+/// The same program, with brackets, another way to write numbers, and no blanks where none are needed.
+const BRACKETS: &str =
+    "event Tick=INT priority 0x1;setup TRISB=0;let n:u8=init 0x0 in{Tick=>((n)+(1));};output PORTB=(n);";
+
 /// Its firmware and its map.
 pub(crate) const COUNTER_HEX: &str = ":020000040000FA
 :100000000030A00083160A288B1001302007A000C2
@@ -41,7 +45,7 @@ const TWO_DEFINITIONS: &str =
     "event Tick = INT priority 1; let a : u8 = init 5 in { Tick => a + 1 later; }; let b : u8 = init 0 in { Tick => a; }; output PORTB = a;";
 
 // A compile of this source that puts this.
-fn compile<'a>(source: Option<&'a [u8]>, put: &'a str) -> Call<'a> {
+pub(crate) fn compile<'a>(source: Option<&'a [u8]>, put: &'a str) -> Call<'a> {
     Call {
         words: &["compile", SOURCE, HEX, MAP],
         source,
@@ -63,19 +67,19 @@ fn padded(alloc: Global, length: usize) -> Result<Vec<u8>, AllocError> {
 
 #[test]
 fn compiles_a_counter(rt: HostRuntime) {
-    let call = compile(Some(COUNTER.as_bytes()), SUMMARY);
-    assert!(rt; ends(&rt, &call, (0, Found::Whole, Found::Whole)));
+    for source in [COUNTER, BRACKETS] {
+        let call = compile(Some(source.as_bytes()), SUMMARY);
+        assert!(rt;
+            ends(&rt, &call, (0, Found::Whole, Found::Whole)),
+            "{source}"
+        );
+    }
 }
 
 #[test]
 fn refuses_what_is_no_counter(rt: HostRuntime) {
-    for source in [TWO_DEFINITIONS, ""] {
-        let call = compile(Some(source.as_bytes()), "refused: form\n");
-        assert!(rt;
-            ends(&rt, &call, (1, Found::Absent, Found::Absent)),
-            "{source:?}"
-        );
-    }
+    let call = compile(Some(TWO_DEFINITIONS.as_bytes()), "refused: form\n");
+    assert!(rt; ends(&rt, &call, (1, Found::Absent, Found::Absent)));
 }
 
 #[test]
@@ -172,8 +176,8 @@ fn keeps_the_limits_on_lengths(rt: HostRuntime) {
     let refused = (1, Found::Absent, Found::Absent);
     let cases = [
         (65_536, SUMMARY, (0, Found::Whole, Found::Whole)),
-        (65_537, "refused: form\n", refused),
-        (1_048_576, "refused: form\n", refused),
+        (65_537, "refused: big 65536\n", refused),
+        (1_048_576, "refused: big 65536\n", refused),
         (1_048_577, "refused: long b.frp\n", refused),
     ];
     for (length, put, want) in cases {

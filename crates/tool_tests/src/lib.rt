@@ -10,3 +10,5 @@ mod compile_tests;
 mod run_calls;
 #[cfg(test)]
 mod run_tests;
+#[cfg(test)]
+mod source_tests;
