@@ -1,5 +1,5 @@
 // A list that grows at its end.
-ghost use Rattle.std.specs.Prelude.{◌≡◌, ◌∷◌, [], ◌++◌, length, OnOk, OnErr, slice_get};
+ghost use Rattle.std.specs.Prelude.{◌≡◌, ◌∷◌, [], ◌++◌, length, take, OnOk, OnErr, slice_get};
 ghost use Rattle.std.specs.Option.{option_copied};
 
 use std::alloc::{AllocError, Global};
@@ -73,6 +73,13 @@ impl<T: Drop> List<T> {
 }
 
 impl<T: Copy> List<T> {
+    /// Drops all items but the first `len`; where there are no more, none. Takes no memory.
+    pub fn truncate(&mut self, len: usize)
+        ensures { self.new ≡ take len self.old }
+    {
+        self.items.truncate(len);
+    }
+
     /// Adds copies of these items at the end. An `Err` is out of memory, and changes nothing.
     pub fn extend_from_slice(&mut self, items: &[T]) -> Result<(), AllocError>
         ensures ok { OnOk result (self.new ≡ self.old ++ items.now) }

@@ -45,8 +45,22 @@ impl Code {
     }
 
     /// Adds the items of `more` at the end, each mark and jump raised by `up`. No raised number passes 2^32 - 1. An `Err` is
-    /// out of memory; then some of them are added, the first ones.
+    /// out of memory, and changes nothing.
     pub fn append(&mut self, more: &Code, up: u32) -> Result<(), AllocError>
+        requires { AllByRecursion (RaisedFits up) more.now.items }
+        ensures ok { OnOk result (self.new.items ≡ self.old.items ++ map (raised up) more.now.items) }
+        ensures err { OnErr result (self.new.items ≡ self.old.items) }
+    {
+        let before = self.items.len();
+        let added = self.add(more, up);
+        if added.is_err() {
+            self.items.truncate(before);
+        }
+        added
+    }
+
+    // Adds the items of `more` at the end, raised; where memory runs out, the first few of them.
+    fn add(&mut self, more: &Code, up: u32) -> Result<(), AllocError>
         requires { AllByRecursion (RaisedFits up) more.now.items }
         ensures ok { OnOk result (self.new.items ≡ self.old.items ++ map (raised up) more.now.items) }
         ensures err { OnErr result ((n : ℕ) × (self.new.items ≡ self.old.items ++ take n (map (raised up) more.now.items))) }

@@ -1,6 +1,6 @@
 use Rattle.std.proofs.Common.{◌≡◌, ◌++◌, map, take}
 use Rattle.op_code.specs.Items.{raised}
-use Rattle.op_code.proofs.items.Code.append.Given as goal
+use Rattle.op_code.proofs.items.Code.add.Given as goal
 
 -- the items so far are the first ones, raised
 abbrev pub invariant-loop-item : goal.invariant-loop-item

@@ -5,7 +5,7 @@ use Rattle.pic_isa.specs.declared.instructions.Instr.TheVariants.{Addwf}
 use Rattle.op_code.specs.declared.items.Item.TheVariants.{Ins}
 use Rattle.op_code.specs.Items.{raised}
 use Rattle.op_code.proofs.ItemLaws.{get_or-raised}
-use Rattle.op_code.proofs.items.Code.append.Goals as goal
+use Rattle.op_code.proofs.items.Code.add.Goals as goal
 
 pub loop-item-preserved : goal.loop-item-preserved
 loop-item-preserved c =
