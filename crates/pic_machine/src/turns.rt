@@ -1,8 +1,7 @@
 // What a boundary does once its arrivals have come: a taking, an instruction or a stop.
-ghost use Rattle.std.specs.Prelude.{◌≡◌};
-ghost use Rattle.pic_isa.specs.Instructions.{instruction_of};
+ghost use Rattle.std.specs.Prelude.{◌≡◌, false, true, if◌then◌else◌};
 ghost use Rattle.pic_regs.specs.Registers.{requested};
-ghost use Rattle.pic_machine.specs.Boundary.{delayed, ran, stopped, took, turn};
+ghost use Rattle.pic_machine.specs.Boundary.{stopped, took, turn};
 ghost use Rattle.pic_machine.specs.Memory.{words_of};
 ghost use Rattle.pic_machine.specs.State.{cpu_of, turn_of};
 
@@ -55,38 +54,34 @@ impl Cpu {
         }
     }
 
-    // Runs a place of program memory, whose instruction ends the turn or, as SLEEP does, stops.
-    fn run(&mut self, cell: &Cell) -> Turned
+    // Where no instruction can run: a requested interrupt is taken, and else the chip stops.
+    fn give_up(&mut self, asked: bool, why: Why) -> Turned
         ensures { turn_of result (cpu_of self.new)
-            ≡ ran cell.now.word (instruction_of cell.now.word) (cpu_of self.old) }
+            ≡ (if asked then took (cpu_of self.old) else stopped why (cpu_of self.old)) }
     {
-        let address = self.pc();
-        let Some(i) = &cell.instruction else {
-            return self.stop(Why::UnknownWord);
-        };
-        match self.exec(i) {
-            Some(effect) => ran_at(address, cell.word, effect),
-            None => self.stop(Why::Sleep),
+        if asked {
+            self.take_turn()
+        } else {
+            self.stop(why)
         }
     }
 
-    // A late taking: the instruction at a place of program memory runs, and then the interrupt is due. Where
-    // none can run, it is taken at once.
-    fn delay(&mut self, cell: &Cell) -> Turned
-        ensures { turn_of result (cpu_of self.new)
-            ≡ delayed cell.now.word (instruction_of cell.now.word) (cpu_of self.old) }
+    // Runs a place of program memory, whose instruction ends the turn. An interrupt that is requested is late: it is
+    // then due, and it is taken at once where no instruction can run.
+    fn run(&mut self, cell: &Cell, asked: bool) -> Turned
+        ensures { turn_of result (cpu_of self.new) ≡ turn false asked true cell.now.word (cpu_of self.old) }
     {
         let address = self.pc();
         let Some(i) = &cell.instruction else {
-            return self.take_turn();
+            return self.give_up(asked, Why::UnknownWord);
         };
-        match self.exec(i) {
-            Some(effect) => {
-                self.due = true;
-                ran_at(address, cell.word, effect)
-            }
-            None => self.take_turn(),
+        let Some(effect) = self.exec(i) else {
+            return self.give_up(asked, Why::Sleep);
+        };
+        if asked {
+            self.due = true;
         }
+        ran_at(address, cell.word, effect)
     }
 
     // Takes an interrupt that is due. One that is requested is taken, or it is late. Otherwise the word at the
@@ -96,14 +91,11 @@ impl Cpu {
             ≡ turn (cpu_of self.old).due (requested (cpu_of self.old).regs) late
             (words_of memory.now (cpu_of self.old).pc) (cpu_of self.old) }
     {
-        if self.due() {
+        let asked = self.requested();
+        if self.due() || asked && !late {
             self.take_turn()
-        } else if !self.requested() {
-            self.run(memory.at(self.pc()))
-        } else if late {
-            self.delay(memory.at(self.pc()))
         } else {
-            self.take_turn()
+            self.run(memory.at(self.pc()), asked)
         }
     }
 }
