@@ -1,10 +1,9 @@
 -- Drafts of lines, with one line more and at the end.
-use Rattle.std.proofs.Common.{◌≡◌, ℕ, ◌+◌, ◌-◌, ◌<◌, ◌≤◌, Bool, true, false, not, ◌&&◌, ◌||◌, ◌==◌, cond, nat_lt, nat_le, List, [], ◌∷◌, ◌++◌, length, map, get_or, Option, Some, None, IfSome, is_some, Result, Ok, Err, slice_get, codes, refl, sym, ap, subst, ◌∙◌, arith, length-append}
+use Rattle.std.proofs.Common.{◌≡◌, ℕ, ◌+◌, ◌-◌, ◌<◌, ◌≤◌, Bool, true, false, not, ◌&&◌, ◌||◌, ◌==◌, cond, nat_lt, nat_le, List, [], ◌∷◌, ◌++◌, length, map, Option, Some, None, IfSome, is_some, Result, Ok, Err, slice_get, codes, refl, sym, ap, subst, ◌∙◌, arith, length-append}
 use Rattle.std.specs.List.{All, find, filter, list_all, list_any}
 use Rattle.std.specs.List.Sorted.{IsStrictlyIncreasing}
 use Rattle.std.specs.Option.{option_map}
 use Rattle.std.specs.Str.{bytes_eq}
-use Rattle.std.specs.Bool.{one_answer}
 use Rattle.std.proofs.Math.Bool.{and-true, and-false, or-false, or-true}
 use Rattle.std.proofs.lemmas.Bool.{lt-ltb, le-leb, leb-true, leb-false, and_parts}
 use Rattle.std.proofs.lemmas.List.{map-append}
@@ -24,12 +23,11 @@ use Rattle.arrival_script.specs.declared.scripts.ScriptFault.{ScriptFault}
 use Rattle.arrival_script.specs.declared.scripts.ScriptFault.TheVariants as fault
 use Rattle.arrival_script.specs.declared.entries.Entry.{Entry}
 use Rattle.arrival_script.specs.declared.entries.Entry.TheVariants as entry
-use Rattle.arrival_script.specs.declared.drafts.Timed.{Timed}
 use Rattle.arrival_script.specs.declared.drafts.Draft.{Draft}
-use Rattle.arrival_script.specs.Scripts.{Line, Fault, word, is_fill, is_late, is_at, is_pin, is_timed, is_steps, value, second, late_named, late_in, arrival_of, pin_of, is_same_pin, has_pair, last_of, rises, is_twice, is_misplaced, line_cause, fault_at_end, fill_of, late_of, arrivals_in, pins_in, steps_of}
+use Rattle.arrival_script.specs.Scripts.{Line, Fault, word, is_fill, is_late, is_at, is_pin, is_timed, is_steps, value, second, late_in, arrival_of, pin_of, is_same_pin, last_of, is_twice, line_cause, fault_at_end, fill_of, late_of, arrivals_in, pins_in, steps_of}
 use Rattle.arrival_script.specs.Entries.{own_cause, Says}
 use Rattle.arrival_script.specs.Drafts.{HasSources, IsCount, IsChangeUpTo, AreChangesUpTo, boundary_of, timed_of, IsDraftOf, is_above, refusal, with_entry, Extends, Adds, Takes, past_number, Ends}
-use Rattle.arrival_script.proofs.ListFacts.{find-no, find-yes, filter-no, filter-yes, any-find, any-map, find-filter, find-map, has_pair-push, last-push, last_below, last_below-map, rising-push}
+use Rattle.arrival_script.proofs.ListFacts.{find-no, find-yes, filter-no, filter-yes, any-find, find-filter, find-map, has_pair-push, last-push, last_below, last_below-map, rising-push}
 use Rattle.arrival_script.proofs.CauseFacts.{by_place, cause-behind}
 
 -- There is a `steps` line where the draft has the steps.

@@ -1,5 +1,5 @@
 -- Pins that change at a boundary, one port after the other.
-use Rattle.std.proofs.Common.{◌≡◌, ℕ, suc, ◌+◌, ◌-◌, ◌==◌, ◌<◌, ◌≤◌, ◌&&◌, ◌||◌, Bool, true, false, cond, List, [], ◌∷◌, length, get_or, take, drop, Option, Some, None, refl, sym, ap, subst, ◌∙◌, arith}
+use Rattle.std.proofs.Common.{◌≡◌, ℕ, ◌+◌, ◌-◌, ◌==◌, ◌<◌, ◌≤◌, ◌&&◌, ◌||◌, Bool, true, false, cond, List, [], ◌∷◌, length, get_or, take, drop, Option, Some, None, refl, sym, ap, subst, ◌∙◌, arith}
 use Rattle.std.specs.List.{find, list_any}
 use Rattle.std.specs.Option.{option_map}
 use Rattle.std.proofs.Math.Path.{fun_ext}
@@ -70,7 +70,7 @@ pins-here p more c apart = ap (λ f. record c { regs = record c.regs { pins = f 
 pins-later : (p : PinChange) (more : List PinChange) (k : ℕ) → p.at < k → pins_at more k ≡ pins_at (p ∷ more) k
 pins-later p more k h = fun_ext (λ port. sym (ap (λ b. option_map (λ q. bits q.byte) (cond (b && p.port == port) (Some p) (found_at more k port))) (ne_eqb p.at k (λ e. absurd (omega arith)))))
 
-none-here : (rest : List PinChange) (low boundary port : ℕ) → ChangeFrom low rest → boundary < low → pins_at rest boundary port ≡ None
+pub none-here : (rest : List PinChange) (low boundary port : ℕ) → ChangeFrom low rest → boundary < low → pins_at rest boundary port ≡ None
 none-here [] low boundary port change h = refl
 none-here (p ∷ more) low boundary port change h =
     let l = change.0 in

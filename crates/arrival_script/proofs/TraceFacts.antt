@@ -17,7 +17,6 @@ use Rattle.pic_machine.specs.declared.steps.Stepped.{Stepped}
 use Rattle.pic_machine.specs.Chip.{Chip}
 use Rattle.pic_machine.specs.Boundary.{Step, stepped}
 use Rattle.pic_machine.specs.Dids.{is_stop}
-use Rattle.map_file.specs.declared.maps.MapEvent.{MapEvent}
 use Rattle.map_file.specs.declared.maps.Map.{Map}
 use Rattle.map_file.specs.MapText.{line}
 use Rattle.arrival_script.specs.Scripts.{sources}

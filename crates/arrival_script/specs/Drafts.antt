@@ -1,5 +1,5 @@
 -- What is known of a script of which some lines are read.
-use Rattle.std.specs.Prelude.{◌≡◌, ℕ, ◌<◌, ◌≤◌, ◌-◌, Bool, true, false, not, nat_lt, nat_le, ◌&&◌, if◌then◌else◌, slice_get, List, [], ◌∷◌, ◌++◌, length, map, filter, Option, Some, None, IfSome, Result, Ok, Err}
+use Rattle.std.specs.Prelude.{◌≡◌, ℕ, ◌<◌, ◌≤◌, ◌-◌, Bool, true, false, nat_lt, nat_le, ◌&&◌, if◌then◌else◌, slice_get, List, [], ◌∷◌, ◌++◌, length, map, filter, Option, Some, None, IfSome, Result, Ok, Err}
 use Rattle.std.specs.List.{All, find, list_all, list_any}
 use Rattle.std.specs.List.Sorted.{IsStrictlyIncreasing, IsNonDecreasingBy}
 use Rattle.std.specs.Option.{option_map}

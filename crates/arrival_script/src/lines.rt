@@ -272,7 +272,7 @@ pub(crate) fn write_step(
     write_commits(text, step, report.did, chip.regs(), map)
 }
 
-fn begin_end(text: &mut String, steps: u32, deepest: u8) -> Result<(), AllocError>
+fn begin_end(text: &mut String, steps: u32, deepest: u32) -> Result<(), AllocError>
     ensures { OnOk result (string_bytes text.new ≡ string_bytes text.old
         ++ (codes "end " ++ (decimal steps ++ (codes " deepest " ++ decimal deepest)))) }
 {
@@ -284,7 +284,7 @@ pub(crate) fn write_end(
     text: &mut String,
     map: &Map,
     steps: u32,
-    deepest: u8,
+    deepest: u32,
     regs: &Regs,
 ) -> Result<(), AllocError>
     requires { IsMap map.now }

@@ -1,9 +1,9 @@
 // The addresses at which a step has a line, so that all others are passed over quickly.
-ghost use Rattle.std.specs.Prelude.{◌≡◌, ℕ, true, false, ◌==◌, get_or};
+ghost use Rattle.std.specs.Prelude.{◌≡◌, ℕ, true, false, ◌==◌, get_or, is_none};
 ghost use Rattle.std.specs.List.{AllByRecursion, list_any};
 ghost use Rattle.map_file.specs.declared.maps.Map.{Map as Maps};
 ghost use Rattle.map_file.specs.MapRules.{IsCode, IsEvent, IsMap};
-ghost use Rattle.arrival_script.specs.TraceParts.{Marks, names_address, samples_address, is_silent, is_quiet};
+ghost use Rattle.arrival_script.specs.TraceParts.{Marks, names_address, samples_address, is_quiet};
 
 use map_file::{Map, MapEvent, MapSample};
 use pic_machine::{Did, Stepped};
@@ -59,19 +59,13 @@ fn is_marked(marked: &[bool; ADDRESSES], address: u16) -> bool
     }
 }
 
-// Whether nothing arrived at a step and nothing was put on a port.
-fn is_silent(report: &Stepped) -> bool
-    ensures { result ≡ is_silent report.now }
-{
-    report.latched == 0 && report.merged == 0 && report.port.is_none()
-}
-
-/// Whether a step ran in silence at an address that isn't marked: it has no line. Most steps have none.
+/// Whether a step ran at an address that isn't marked, and put nothing on a port: where nothing arrived, it has no
+/// line. Most steps have none.
 pub(crate) fn is_plain(marked: &[bool; ADDRESSES], report: &Stepped) -> bool
-    ensures { result ≡ true → (m : Maps) → Marks marked.now m → is_quiet m (is_silent report.now) report.now.did ≡ true }
+    ensures { result ≡ true → (m : Maps) → Marks marked.now m → is_quiet m (is_none report.now.port) report.now.did ≡ true }
 {
     match report.did {
-        Did::Ran { address, .. } => is_silent(report) && !is_marked(marked, address),
+        Did::Ran { address, .. } => report.port.is_none() && !is_marked(marked, address),
         Did::Took | Did::Stopped { .. } => false,
     }
 }

@@ -73,8 +73,9 @@ pub fn trace<S: Sink>(
 {
     let marked = marked_addresses(map);
     let mut tracer = Tracer::new(alloc, image, s);
-    for step in 0..s.steps {
-        tracer.advance(alloc, map, &marked, step, out)?;
+    let mut step = 0;
+    while step < s.steps {
+        step = tracer.advance(alloc, map, &marked, step, s.steps, out)?;
     }
     tracer.finish(alloc, map, s.steps, out)
 }

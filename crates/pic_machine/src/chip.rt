@@ -114,6 +114,18 @@ impl Chip {
         self.cpu.regs()
     }
 
+    /// Sets the flag of each source of a set, below 2,048, enabled or not, and says which of them were latched and
+    /// which were merged.
+    pub fn arrive(&mut self, sources: u16) -> Arrived
+        requires { sources < 2048 }
+        ensures latched { result.latched ≡ number_of (latched (set_of sources) (chip_of self.old).regs) }
+        ensures merged { result.merged ≡ number_of (merged (set_of sources) (chip_of self.old).regs) }
+        ensures chip { chip_of self.new ≡ with_arrivals (set_of sources) (chip_of self.old) }
+        ensures memory { memory_of self.new ≡ memory_of self.old }
+    {
+        self.cpu.arrive(sources)
+    }
+
     /// Sets the pins of a port, 0 for PORTA to 4 for PORTE.
     pub fn set_pins(&mut self, port: u8, byte: u8)
         requires { port < 5 }

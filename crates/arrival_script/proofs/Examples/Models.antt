@@ -1,5 +1,5 @@
 -- Model texts of small programs, and events files.
-use Rattle.std.specs.Prelude.{◌≡◌, ℕ, List, [], ◌∷◌, ◌++◌, true, false, Some, None, codes, refl}
+use Rattle.std.specs.Prelude.{◌≡◌, ℕ, List, [], ◌∷◌, Some, None, codes, refl}
 use Rattle.std.specs.Fmt.{digits}
 use Rattle.frp_tree.specs.declared.syntax.Ty.TheVariants.{U8}
 use Rattle.frp_tree.specs.declared.syntax.Lit.TheVariants as lit

@@ -1,9 +1,7 @@
 use Rattle.std.proofs.Common.{◌≡◌, ◌++◌, ◌%◌, string_bytes, sym, ap, ◌∙◌, arith}
 use Rattle.std.specs.List.{flat_map}
 use Rattle.pic_regs.specs.Bytes.{num}
-use Rattle.pic_regs.specs.State.{registers_of}
 use Rattle.pic_regs.proofs.ByteLaws.{num-bits}
-use Rattle.pic_machine.specs.Chip.{Chip}
 use Rattle.pic_machine.specs.State.{chip_of}
 use Rattle.arrival_script.specs.Trace.{sample_line, open_line, commit_line}
 use Rattle.arrival_script.proofs.TraceFacts.{on_ok, step-written}

@@ -1,45 +1,30 @@
-use Rattle.std.proofs.Common.{max, Ok, string_bytes, refl, ap, ◌∙◌}
-use Rattle.arrival_script.proofs.RunFacts.{advanced, quiet-told}
+use Rattle.std.proofs.Common.{◌≡◌, Ok, Err, refl, sym, subst, arith}
+use Rattle.arrival_script.specs.Running.{Ran, with_arrived}
+use Rattle.arrival_script.proofs.RunFacts.{advanced, advances-error}
 use Rattle.arrival_script.proofs.tracer.Tracer.advance.Goals as goal
 
-pub returns-then-is_plain-clause-traced : goal.returns-then-is_plain-clause-traced
-returns-then-is_plain-clause-traced g c = λ image s old inside so.
-    let mid = (g.S.Sink.seen c.args.out.now).taken in
-    let text = string_bytes c.args.self.now.text in
-    advanced c.args.map.now image s c.args.step c.next_arrivals-arrivals.result.0 c.is_late_at.result c.args.self.now _ c.set_pins-self.new.chip c.step-report.result old mid mid (Ok tt) (record {
-      late_is = c.is_late_at.ensures;
-      arrived = c.next_arrivals-arrivals.ensures.set;
-      pinned_is = c.set_pins-self.ensures.chip;
-      pinned_memory = c.set_pins-self.ensures.memory;
-      report_is = c.step-report.ensures.report;
-      chip = c.step-report.ensures.chip;
-      memory = c.step-report.ensures.memory;
-      rise = c.next_arrivals-arrivals.ensures.rise;
-      later = c.next_arrivals-arrivals.ensures.later;
-      late = refl;
-      change = c.set_pins-self.ensures.change;
-      pins = c.set_pins-self.ensures.later;
-      greatest = c.max-self.ensures ∙ ap (λ d. max c.args.self.now.deepest d) c.depth.ensures;
-    }) inside so
-    (λ told report chip. quiet-told c.args.map.now c.args.step c.step-report.result mid text (c.is_plain.ensures c.if-is_plain.true c.args.map.now c.requires.marked) told report)
-
-pub returns-clause-traced : goal.returns-clause-traced
-returns-clause-traced g c = λ image s old inside so.
+pub returns-in_err-tell_step-clause-traced : goal.returns-in_err-tell_step-clause-traced
+returns-in_err-tell_step-clause-traced g c = λ image s old same so.
+    let m = c.args.map.now in
     let mid = (g.S.Sink.seen c.args.out.now).taken in
     let new = (g.S.Sink.seen c.tell_step.new.out).taken in
-    advanced c.args.map.now image s c.args.step c.next_arrivals-arrivals.result.0 c.is_late_at.result c.args.self.now _ c.set_pins-self.new.chip c.step-report.result old mid new c.tell_step.result (record {
-      late_is = c.is_late_at.ensures;
-      arrived = c.next_arrivals-arrivals.ensures.set;
-      pinned_is = c.set_pins-self.ensures.chip;
-      pinned_memory = c.set_pins-self.ensures.memory;
-      report_is = c.step-report.ensures.report;
-      chip = c.step-report.ensures.chip;
-      memory = c.step-report.ensures.memory;
-      rise = c.next_arrivals-arrivals.ensures.rise;
-      later = c.next_arrivals-arrivals.ensures.later;
-      late = refl;
-      change = c.set_pins-self.ensures.change;
-      pins = c.set_pins-self.ensures.later;
-      greatest = c.max-self.ensures ∙ ap (λ d. max c.args.self.now.deepest d) c.depth.ensures;
-    }) inside so
-    c.tell_step.ensures.sent
+    let run = c.run_quietly-last.new.self in
+    let f = c.in_err-tell_step.field-0.0 in
+    let a = c.take_in-arrived.result in
+    let quiet = c.run_quietly-last.result.1 in
+    let report : with_arrived a quiet ≡ c.with_arrived-report.result = sym c.with_arrived-report.ensures in
+    let ran = subst (λ r. Ran m image s c.run_quietly-last.result.0 r run old mid) report (c.run_quietly-last.ensures.ran m image s old mid (omega arith) c.requires.marked (c.take_in-arrived.ensures.ready m image s old mid (omega arith) so)) in
+    advances-error m image s old new _ c.from_residual.result f c.from_residual.ensures.1
+    (advanced m image s c.run_quietly-last.result.0 c.with_arrived-report.result run (record run { text = c.tell_step.new.text }) old mid new (Err f) (omega arith) refl ran c.in_err-tell_step.ensures.sent)
+
+pub returns-clause-traced : goal.returns-clause-traced
+returns-clause-traced g c = λ image s old same so.
+    let m = c.args.map.now in
+    let mid = (g.S.Sink.seen c.args.out.now).taken in
+    let new = (g.S.Sink.seen c.tell_step.new.out).taken in
+    let run = c.run_quietly-last.new.self in
+    let a = c.take_in-arrived.result in
+    let quiet = c.run_quietly-last.result.1 in
+    let report : with_arrived a quiet ≡ c.with_arrived-report.result = sym c.with_arrived-report.ensures in
+    let ran = subst (λ r. Ran m image s c.run_quietly-last.result.0 r run old mid) report (c.run_quietly-last.ensures.ran m image s old mid (omega arith) c.requires.marked (c.take_in-arrived.ensures.ready m image s old mid (omega arith) so)) in
+    advanced m image s c.run_quietly-last.result.0 c.with_arrived-report.result run (record run { text = c.tell_step.new.text }) old mid new (Ok tt) (omega arith) refl ran c.in_ok-tell_step.ensures.sent
