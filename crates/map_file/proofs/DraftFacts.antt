@@ -24,7 +24,7 @@ use Rattle.map_file.specs.MapRules.{IsMap, IsEvent, IsSample, IsState, AllDiffer
 use Rattle.map_file.specs.Entries.{section_after, entries_of, report_of, IsEntry, IsRange}
 use Rattle.map_file.specs.Drafts.{admits, with_entry, lowest_with, Added, events_differ, states_differ, samples_differ, empty_draft}
 use Rattle.map_file.proofs.FieldCutFacts.{all_append}
-use Rattle.map_file.proofs.EntryOrderFacts.{run, run-append, out_of_order, no_event_after_sample, event_in, state_in, output_in, sample_in, range_in, events_of, states_of, outputs_of, samples_of, ranges_of}
+use Rattle.map_file.proofs.EntryOrderFacts.{run, run-append, out_of_order, no_event_after_sample, Kind, Events, States, Outputs, Samples, Ranges, all_of, stated, told}
 
 -- Names and sources that differ.
 
@@ -63,16 +63,7 @@ source_at n = lookup (λ k. k == n) sources
 
 source_back : (s : Source) → source_at (source_number s) ≡ Some s
 source_back source.T0 = refl
-source_back source.Int = refl
-source_back source.Psp = refl
-source_back source.Ad = refl
-source_back source.Ssp = refl
-source_back source.Ccp1 = refl
-source_back source.Tmr2 = refl
-source_back source.Tmr1 = refl
-source_back source.Ee = refl
-source_back source.Bcl = refl
-source_back source.Ccp2 = refl
+source_back _ = refl
 
 one_number : (a b : Source) → source_number a ≡ source_number b → a ≡ b
 one_number a b e = let found : Some a ≡ Some b = sym (source_back a) ∙ ap source_at e ∙ source_back b in cc found
@@ -189,17 +180,17 @@ IsLater section.End m = Unit {0}
 pub record IsDraft (xs : List Entry) (d : Draft) : Type 0 where
   pub entries : xs ≡ so_far d.section d.map
   pub reached : run section.Start xs ≡ Some d.section
-  pub events : filter_map event_in xs ≡ d.map.events
-  pub states : filter_map state_in xs ≡ d.map.states
-  pub outputs : filter_map output_in xs ≡ d.map.outputs
-  pub samples : filter_map sample_in xs ≡ d.map.samples
-  pub ranges : filter_map range_in xs ≡ d.map.regs
+  pub parts : (k : Kind) → filter_map (stated k) xs ≡ all_of k d.map
   pub lowest : d.lowest ≡ lowest_after 0 d.map.regs
   pub later : IsLater d.section d.map
   pub rules : IsMap d.map
 
+no_parts : (k : Kind) → [] ≡ all_of k empty_draft.map
+no_parts Events = refl
+no_parts _ = refl
+
 pub empty_is_draft : IsDraft [] empty_draft
-empty_is_draft = record { entries = refl; reached = refl; events = refl; states = refl; outputs = refl; samples = refl; ranges = refl; lowest = refl; later = (refl, refl, refl, refl, refl); rules = search (arith) }
+empty_is_draft = record { entries = refl; reached = refl; parts = no_parts; lowest = refl; later = (refl, refl, refl, refl, refl); rules = search (arith) }
 
 -- Each draft's entries are a prefix of its map's.
 pub still_to_come : (s : Section) (m : Map) → (more : List Entry) × (entries_of m ≡ so_far s m ++ more)
@@ -240,25 +231,13 @@ pushed section.Registers t m (entry.Regs r) l h = placed section.Registers t m (
 pushed section.Registers t m (entry.Report r) l h = placed section.End t m (entry.Report r) (so_far section.Registers m) h (simp append_assoc, tt)
 pushed s t m e l h = absurd (cc h)
 
-events_with : (m : Map) (e : Entry) → m.events ++ filter_map event_in (e ∷ []) ≡ (with_entry m e).events
-events_with m (entry.Event e) = refl
-events_with m e = append-nil m.events
-
-states_with : (m : Map) (e : Entry) → m.states ++ filter_map state_in (e ∷ []) ≡ (with_entry m e).states
-states_with m (entry.State s) = refl
-states_with m e = append-nil m.states
-
-outputs_with : (m : Map) (e : Entry) → m.outputs ++ filter_map output_in (e ∷ []) ≡ (with_entry m e).outputs
-outputs_with m (entry.Output port) = refl
-outputs_with m e = append-nil m.outputs
-
-samples_with : (m : Map) (e : Entry) → m.samples ++ filter_map sample_in (e ∷ []) ≡ (with_entry m e).samples
-samples_with m (entry.Sample s) = refl
-samples_with m e = append-nil m.samples
-
-ranges_with : (m : Map) (e : Entry) → m.regs ++ filter_map range_in (e ∷ []) ≡ (with_entry m e).regs
-ranges_with m (entry.Regs r) = refl
-ranges_with m e = append-nil m.regs
+with_one : (k : Kind) (m : Map) (e : Entry) → all_of k m ++ filter_map (stated k) (e ∷ []) ≡ all_of k (with_entry m e)
+with_one Events m (entry.Event e) = refl
+with_one States m (entry.State s) = refl
+with_one Outputs m (entry.Output port) = refl
+with_one Samples m (entry.Sample s) = refl
+with_one Ranges m (entry.Regs r) = refl
+with_one k m e = append-nil (all_of k m)
 
 lowest_same : (m : Map) (e : Entry) → lowest_with (lowest_after 0 m.regs) e ≡ lowest_after 0 (with_entry m e).regs
 lowest_same m (entry.Regs r) = sym (lowest_push 0 m.regs r)
@@ -306,11 +285,7 @@ drafted xs d t e h v a after =
     record {
       entries = ap (λ u. u ++ e ∷ []) h.entries ∙ sym next.0;
       reached = run-append section.Start xs (e ∷ []) ∙ ap (option_and_then (λ u. run u (e ∷ []))) h.reached ∙ ap (option_and_then (λ u. Some u)) after;
-      events = filter_map-append event_in xs (e ∷ []) ∙ ap (λ u. u ++ filter_map event_in (e ∷ [])) h.events ∙ events_with d.map e;
-      states = filter_map-append state_in xs (e ∷ []) ∙ ap (λ u. u ++ filter_map state_in (e ∷ [])) h.states ∙ states_with d.map e;
-      outputs = filter_map-append output_in xs (e ∷ []) ∙ ap (λ u. u ++ filter_map output_in (e ∷ [])) h.outputs ∙ outputs_with d.map e;
-      samples = filter_map-append sample_in xs (e ∷ []) ∙ ap (λ u. u ++ filter_map sample_in (e ∷ [])) h.samples ∙ samples_with d.map e;
-      ranges = filter_map-append range_in xs (e ∷ []) ∙ ap (λ u. u ++ filter_map range_in (e ∷ [])) h.ranges ∙ ranges_with d.map e;
+      parts = λ k. filter_map-append (stated k) xs (e ∷ []) ∙ ap (λ u. u ++ filter_map (stated k) (e ∷ [])) (h.parts k) ∙ with_one k d.map e;
       lowest = ap (λ n. lowest_with n e) h.lowest ∙ lowest_same d.map e;
       later = next.1;
       rules = rules_with d e h.rules h.lowest v a;
@@ -322,41 +297,45 @@ draft_more xs d d' e h v a =
     let same : record { section = d'.section; map = with_entry d.map e; lowest = lowest_with d.lowest e } ≡ d' = λ i. record { section = d'.section; map = (sym a.2) i; lowest = (sym a.3) i } in
     subst (IsDraft (xs ++ e ∷ [])) same (drafted xs d d'.section e h v a.0 a.1)
 
+-- What a map has of a kind is what the draft has, and what follows.
+what_follows : (k : Kind) (m : Map) (xs more : List Entry) (d : Draft) (e : Entry) → entries_of m ≡ xs ++ (e ∷ more) → IsDraft xs d → all_of k m ≡ all_of k d.map ++ filter_map (stated k) (e ∷ more)
+what_follows k m xs more d e same h =
+    sym (told k m) ∙ ap (filter_map (stated k)) same ∙ filter_map-append (stated k) xs (e ∷ more) ∙ ap (λ u. u ++ filter_map (stated k) (e ∷ more)) (h.parts k)
+
 -- An entry that stands next in a map's row is admitted.
 admitted : (m : Map) (xs more : List Entry) (d : Draft) (e : Entry) → IsMap m → entries_of m ≡ xs ++ (e ∷ more) → IsDraft xs d → admits d e ≡ true
 admitted m xs more d entry.Head rules same h = refl
 admitted m xs more d (entry.Ready address) rules same h = refl
 admitted m xs more d (entry.Report r) rules same h = refl
 admitted m xs more d (entry.Event e) rules same h =
-    let later = filter_map event_in more in
-    let all : m.events ≡ d.map.events ++ (e ∷ later) = sym (events_of m) ∙ ap (filter_map event_in) same ∙ filter_map-append event_in xs (entry.Event e ∷ more) ∙ ap (λ u. u ++ (e ∷ later)) h.events in
+    let later = filter_map (stated Events) more in
+    let all : m.events ≡ d.map.events ++ (e ∷ later) = what_follows Events m xs more d (entry.Event e) same h in
     let names = differ_front (λ (x : MapEvent). x.name) d.map.events e later (subst (AllDiffer (λ (x : MapEvent). x.name)) all rules.event_names) in
     let sources = differ_front (λ (x : MapEvent). x.source) d.map.events e later (subst (AllDiffer (λ (x : MapEvent). x.source)) all rules.sources) in
     let room : length d.map.events < 11 = omega (arith, rules.event_limit, ap length all, length-append d.map.events (e ∷ later)) in
     and_from (nat_lt (length d.map.events) 11) (list_all (λ other. events_differ other e) d.map.events) (lt-ltb (length d.map.events) 11 room) (events_pass d.map.events e names sources)
 admitted m xs more d (entry.State s) rules same h =
-    let later = filter_map state_in more in
-    let all : m.states ≡ d.map.states ++ (s ∷ later) = sym (states_of m) ∙ ap (filter_map state_in) same ∙ filter_map-append state_in xs (entry.State s ∷ more) ∙ ap (λ u. u ++ (s ∷ later)) h.states in
+    let later = filter_map (stated States) more in
+    let all : m.states ≡ d.map.states ++ (s ∷ later) = what_follows States m xs more d (entry.State s) same h in
     let names = differ_front (λ (x : MapState). x.name) d.map.states s later (subst (AllDiffer (λ (x : MapState). x.name)) all rules.state_names) in
     let room : length d.map.states < 128 = omega (arith, rules.state_limit, ap length all, length-append d.map.states (s ∷ later)) in
     and_from (nat_lt (length d.map.states) 128) (list_all (λ other. states_differ other s) d.map.states) (lt-ltb (length d.map.states) 128 room) (states_pass d.map.states s names)
 admitted m xs more d (entry.Output port) rules same h =
-    let later = filter_map output_in more in
-    let all : m.outputs ≡ d.map.outputs ++ (port ∷ later) = sym (outputs_of m) ∙ ap (filter_map output_in) same ∙ filter_map-append output_in xs (entry.Output port ∷ more) ∙ ap (λ u. u ++ (port ∷ later)) h.outputs in
+    let later = filter_map (stated Outputs) more in
+    let all : m.outputs ≡ d.map.outputs ++ (port ∷ later) = what_follows Outputs m xs more d (entry.Output port) same h in
     lt-ltb (length d.map.outputs) 5 (omega (arith, rules.output_limit, ap length all, length-append d.map.outputs (port ∷ later)))
 admitted m xs more d (entry.Sample s) rules same h =
-    let later = filter_map sample_in more in
-    let all : m.samples ≡ d.map.samples ++ (s ∷ later) = sym (samples_of m) ∙ ap (filter_map sample_in) same ∙ filter_map-append sample_in xs (entry.Sample s ∷ more) ∙ ap (λ u. u ++ (s ∷ later)) h.samples in
+    let later = filter_map (stated Samples) more in
+    let all : m.samples ≡ d.map.samples ++ (s ∷ later) = what_follows Samples m xs more d (entry.Sample s) same h in
     let events : m.events ≡ d.map.events =
-    sym (events_of m) ∙ ap (filter_map event_in) same ∙ filter_map-append event_in xs (entry.Sample s ∷ more)
-    ∙ ap (λ u. filter_map event_in xs ++ u) (no_event_after_sample m d.section xs more s h.reached same) ∙ append-nil (filter_map event_in xs) ∙ h.events in
+    what_follows Events m xs more d (entry.Sample s) same h ∙ ap (λ u. d.map.events ++ u) (no_event_after_sample m d.section xs more s h.reached same) ∙ append-nil d.map.events in
     let pairs = differ_front pair d.map.samples s later (subst (AllDiffer pair) all rules.sample_pairs) in
     let fits = all_front (IsSample m.events) d.map.samples s later (subst (AllByRecursion (IsSample m.events)) all rules.samples) in
     let known = subst (λ es. names_event es s.event ≡ true) events fits.event in
     and_from (names_event d.map.events s.event) (list_all (λ other. samples_differ other s) d.map.samples) known (samples_pass d.map.samples s pairs)
 admitted m xs more d (entry.Regs r) rules same h =
-    let later = filter_map range_in more in
-    let all : m.regs ≡ d.map.regs ++ (r ∷ later) = sym (ranges_of m) ∙ ap (filter_map range_in) same ∙ filter_map-append range_in xs (entry.Regs r ∷ more) ∙ ap (λ u. u ++ (r ∷ later)) h.ranges in
+    let later = filter_map (stated Ranges) more in
+    let all : m.regs ≡ d.map.regs ++ (r ∷ later) = what_follows Ranges m xs more d (entry.Regs r) same h in
     le-leb d.lowest r.from (subst (λ n. n ≤ r.from) (sym h.lowest) (rise_front 0 d.map.regs r later (subst (RangesRise 0) all rules.ranges)))
 
 -- An entry that the draft doesn't admit stands next in no map's row.

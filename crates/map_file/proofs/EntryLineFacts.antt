@@ -59,16 +59,7 @@ name_visible bs h = name_form bs (and_parts (has_form_of_name bs) (nat_le (lengt
 
 source_visible : (s : Source) → list_all is_visible (source_name s) ≡ true
 source_visible source.T0 = refl
-source_visible source.Int = refl
-source_visible source.Psp = refl
-source_visible source.Ad = refl
-source_visible source.Ssp = refl
-source_visible source.Ccp1 = refl
-source_visible source.Tmr2 = refl
-source_visible source.Tmr1 = refl
-source_visible source.Ee = refl
-source_visible source.Bcl = refl
-source_visible source.Ccp2 = refl
+source_visible _ = refl
 
 port_visible : (p : ℕ) → list_all is_visible (name_of_port p) ≡ true
 port_visible zero = refl

@@ -1,6 +1,6 @@
 -- The order of a map's entries: section by section, and what each section holds.
 use Rattle.std.proofs.Common.{◌≡◌, ◌≢◌, ℕ, Bool, true, false, List, [], ◌∷◌, ◌++◌, map, Option, Some, None, option_and_then, refl, sym, ap, ◌∙◌}
-use Rattle.std.specs.List.{filter_map}
+use Rattle.std.specs.List.{cons_option, filter_map}
 use Rattle.std.proofs.lemmas.List.{append-nil}
 use Rattle.std.proofs.lemmas.List.Elements.{filter_map-append}
 use Rattle.map_file.specs.declared.maps.MapEvent.{MapEvent}
@@ -86,33 +86,42 @@ out_of_order m s xs more e reached same none =
     let clash : None ≡ Some section.End = sym (ap (option_and_then (λ t. run t more)) none) ∙ rest_ends m s xs (e ∷ more) reached same in
     cc clash
 
--- What the entries of one kind state.
+-- The kinds of entries of which a map may have several.
+pub data Kind : Type 0 where
+  Events : Kind
+  States : Kind
+  Outputs : Kind
+  Samples : Kind
+  Ranges : Kind
 
-abbrev pub event_in : Entry → Option MapEvent
-event_in (entry.Event e) = Some e
-event_in e = None
+abbrev pub Of : Kind → Type 0
+Of Events = MapEvent
+Of States = MapState
+Of Outputs = ℕ
+Of Samples = MapSample
+Of Ranges = Range
 
-abbrev pub state_in : Entry → Option MapState
-state_in (entry.State s) = Some s
-state_in e = None
+-- What a map has of a kind, and what an entry of this kind states.
+abbrev pub all_of : (k : Kind) → Map → List (Of k)
+all_of Events m = m.events
+all_of States m = m.states
+all_of Outputs m = m.outputs
+all_of Samples m = m.samples
+all_of Ranges m = m.regs
 
-abbrev pub output_in : Entry → Option ℕ
-output_in (entry.Output port) = Some port
-output_in e = None
+abbrev pub stated : (k : Kind) → Entry → Option (Of k)
+stated Events (entry.Event e) = Some e
+stated States (entry.State s) = Some s
+stated Outputs (entry.Output port) = Some port
+stated Samples (entry.Sample s) = Some s
+stated Ranges (entry.Regs r) = Some r
+stated k e = None
 
-abbrev pub sample_in : Entry → Option MapSample
-sample_in (entry.Sample s) = Some s
-sample_in e = None
-
-abbrev pub ready_in : Entry → Option ℕ
+abbrev ready_in : Entry → Option ℕ
 ready_in (entry.Ready address) = Some address
 ready_in e = None
 
-abbrev pub range_in : Entry → Option Range
-range_in (entry.Regs r) = Some r
-range_in e = None
-
-abbrev pub report_in : Entry → Option Reports
+abbrev report_in : Entry → Option Reports
 report_in (entry.Report r) = Some r
 report_in e = None
 
@@ -124,7 +133,7 @@ is_late section.End = true
 is_late s = false
 
 IsLateStep : Section → Entry → Type 0
-IsLateStep t e = (is_late t ≡ true) × (event_in e ≡ None)
+IsLateStep t e = (is_late t ≡ true) × (stated Events e ≡ None)
 
 late_step : (s t : Section) (e : Entry) → is_late s ≡ true → section_after s e ≡ Some t → IsLateStep t e
 unfolding IsLateStep
@@ -134,12 +143,12 @@ late_step section.Registers t (entry.Regs x) late after = let same : section.Reg
 late_step section.Registers t (entry.Report x) late after = let same : section.End ≡ t = cc after in (sym (ap is_late same), refl)
 late_step s t e late after = cc
 
-no_events_late : (s : Section) (es : List Entry) → is_late s ≡ true → run s es ≡ Some section.End → filter_map event_in es ≡ []
+no_events_late : (s : Section) (es : List Entry) → is_late s ≡ true → run s es ≡ Some section.End → filter_map (stated Events) es ≡ []
 unfolding IsLateStep
 no_events_late s [] late ends = refl
 no_events_late s (e ∷ es) late ends = go (section_after s e) refl (λ t. no_events_late t es)
   where
-    go : (o : Option Section) → section_after s e ≡ o → ((t : Section) → is_late t ≡ true → run t es ≡ Some section.End → filter_map event_in es ≡ []) → filter_map event_in (e ∷ es) ≡ []
+    go : (o : Option Section) → section_after s e ≡ o → ((t : Section) → is_late t ≡ true → run t es ≡ Some section.End → filter_map (stated Events) es ≡ []) → filter_map (stated Events) (e ∷ es) ≡ []
     go None next rest = let none : None ≡ Some section.End = sym (ap (option_and_then (λ t. run t es)) next) ∙ ends in cc none
     go (Some t) next rest =
         let step = late_step s t e late next in
@@ -154,106 +163,64 @@ sample_is_late section.Samples t x after = let same : section.Samples ≡ t = cc
 sample_is_late s t x after = absurd (cc after)
 
 -- No event of a map stands after one of its samples.
-pub no_event_after_sample : (m : Map) (s : Section) (xs more : List Entry) (x : MapSample) → run section.Start xs ≡ Some s → entries_of m ≡ xs ++ (entry.Sample x ∷ more) → filter_map event_in more ≡ []
+pub no_event_after_sample : (m : Map) (s : Section) (xs more : List Entry) (x : MapSample) → run section.Start xs ≡ Some s → entries_of m ≡ xs ++ (entry.Sample x ∷ more) → filter_map (stated Events) more ≡ []
 no_event_after_sample m s xs more x reached same = go (section_after s (entry.Sample x)) refl
   where
     ends : run s (entry.Sample x ∷ more) ≡ Some section.End
     ends = rest_ends m s xs (entry.Sample x ∷ more) reached same
 
-    go : (o : Option Section) → section_after s (entry.Sample x) ≡ o → filter_map event_in more ≡ []
+    go : (o : Option Section) → section_after s (entry.Sample x) ≡ o → filter_map (stated Events) more ≡ []
     go None next = let none : None ≡ Some section.End = sym (ap (option_and_then (λ t. run t more)) next) ∙ ends in cc none
     go (Some t) next = no_events_late t more (sample_is_late s t x next) (sym (ap (option_and_then (λ u. run u more)) next) ∙ ends)
 
-kept : {X : Type 0} (h : Entry → Option X) (f : X → Entry) (xs : List X) → ((x : X) → h (f x) ≡ Some x) → filter_map h (map f xs) ≡ xs
-kept h f [] all = refl
-kept h f (x ∷ xs) all = rw (all x, kept h f xs all)
+-- The entries of a map state what it has of each kind.
+picks : {X Y : Type 0} (h : Entry → Option Y) (f : X → Entry) (xs : List X) → filter_map h (map f xs) ≡ filter_map (λ x. h (f x)) xs
+picks h f [] = refl
+picks h f (x ∷ xs) = ap (cons_option (h (f x))) (picks h f xs)
 
-dropped : {X Y : Type 0} (h : Entry → Option Y) (f : X → Entry) (xs : List X) → ((x : X) → h (f x) ≡ None) → filter_map h (map f xs) ≡ []
-dropped h f [] all = refl
-dropped h f (x ∷ xs) all = rw (all x, dropped h f xs all)
+all_kept : {X : Type 0} (xs : List X) → filter_map (λ x. Some x) xs ≡ xs
+all_kept [] = refl
+all_kept (x ∷ xs) = ap (λ more. x ∷ more) (all_kept xs)
 
-pub events_of : (m : Map) → filter_map event_in (entries_of m) ≡ m.events
-events_of m =
-    let a = kept event_in entry.Event m.events (λ x. refl) in
-    let b = dropped event_in entry.State m.states (λ x. refl) in
-    let c = dropped event_in entry.Output m.outputs (λ x. refl) in
-    let s = dropped event_in entry.Sample m.samples (λ x. refl) in
-    let d = dropped event_in entry.Regs m.regs (λ x. refl) in
-    simp (filter_map-append, a, b, c, s, d, append-nil)
+none_kept : {X Y : Type 0} (xs : List X) → filter_map {X = X} {Y = Y} (λ x. None) xs ≡ []
+none_kept [] = refl
+none_kept (x ∷ xs) = none_kept xs
 
-pub states_of : (m : Map) → filter_map state_in (entries_of m) ≡ m.states
-states_of m =
-    let a = dropped state_in entry.Event m.events (λ x. refl) in
-    let b = kept state_in entry.State m.states (λ x. refl) in
-    let c = dropped state_in entry.Output m.outputs (λ x. refl) in
-    let s = dropped state_in entry.Sample m.samples (λ x. refl) in
-    let d = dropped state_in entry.Regs m.regs (λ x. refl) in
-    simp (filter_map-append, a, b, c, s, d, append-nil)
+by_entry : {Y : Type 0} (h : Entry → Option Y) (m : Map)
+    → filter_map h (entries_of m)
+    ≡ cons_option (h entry.Head) (filter_map (λ x. h (entry.Event x)) m.events ++ (filter_map (λ x. h (entry.State x)) m.states
+    ++ (filter_map (λ x. h (entry.Output x)) m.outputs ++ (filter_map (λ x. h (entry.Sample x)) m.samples
+    ++ cons_option (h (entry.Ready m.ready)) (filter_map (λ x. h (entry.Regs x)) m.regs ++ filter_map h (entry.Report (report_of m) ∷ []))))))
+by_entry h m = simp (filter_map-append, picks)
 
-pub outputs_of : (m : Map) → filter_map output_in (entries_of m) ≡ m.outputs
-outputs_of m =
-    let a = dropped output_in entry.Event m.events (λ x. refl) in
-    let b = dropped output_in entry.State m.states (λ x. refl) in
-    let c = kept output_in entry.Output m.outputs (λ x. refl) in
-    let s = dropped output_in entry.Sample m.samples (λ x. refl) in
-    let d = dropped output_in entry.Regs m.regs (λ x. refl) in
-    simp (filter_map-append, a, b, c, s, d, append-nil)
+pub told : (k : Kind) (m : Map) → filter_map (stated k) (entries_of m) ≡ all_of k m
+told Events m = by_entry (stated Events) m ∙ simp (all_kept, none_kept, append-nil)
+told States m = by_entry (stated States) m ∙ simp (all_kept, none_kept, append-nil)
+told Outputs m = by_entry (stated Outputs) m ∙ simp (all_kept, none_kept, append-nil)
+told Samples m = by_entry (stated Samples) m ∙ simp (all_kept, none_kept, append-nil)
+told Ranges m = by_entry (stated Ranges) m ∙ simp (all_kept, none_kept, append-nil)
 
-pub samples_of : (m : Map) → filter_map sample_in (entries_of m) ≡ m.samples
-samples_of m =
-    let a = dropped sample_in entry.Event m.events (λ x. refl) in
-    let b = dropped sample_in entry.State m.states (λ x. refl) in
-    let c = dropped sample_in entry.Output m.outputs (λ x. refl) in
-    let s = kept sample_in entry.Sample m.samples (λ x. refl) in
-    let d = dropped sample_in entry.Regs m.regs (λ x. refl) in
-    simp (filter_map-append, a, b, c, s, d, append-nil)
+ready_of : (m : Map) → filter_map ready_in (entries_of m) ≡ m.ready ∷ []
+ready_of m = by_entry ready_in m ∙ simp none_kept
 
-pub ready_of : (m : Map) → filter_map ready_in (entries_of m) ≡ m.ready ∷ []
-ready_of m =
-    let a = dropped ready_in entry.Event m.events (λ x. refl) in
-    let b = dropped ready_in entry.State m.states (λ x. refl) in
-    let c = dropped ready_in entry.Output m.outputs (λ x. refl) in
-    let s = dropped ready_in entry.Sample m.samples (λ x. refl) in
-    let d = dropped ready_in entry.Regs m.regs (λ x. refl) in
-    simp (filter_map-append, a, b, c, s, d, append-nil)
-
-pub ranges_of : (m : Map) → filter_map range_in (entries_of m) ≡ m.regs
-ranges_of m =
-    let a = dropped range_in entry.Event m.events (λ x. refl) in
-    let b = dropped range_in entry.State m.states (λ x. refl) in
-    let c = dropped range_in entry.Output m.outputs (λ x. refl) in
-    let s = dropped range_in entry.Sample m.samples (λ x. refl) in
-    let d = kept range_in entry.Regs m.regs (λ x. refl) in
-    simp (filter_map-append, a, b, c, s, d, append-nil)
-
-pub reports_of : (m : Map) → filter_map report_in (entries_of m) ≡ report_of m ∷ []
-reports_of m =
-    let a = dropped report_in entry.Event m.events (λ x. refl) in
-    let b = dropped report_in entry.State m.states (λ x. refl) in
-    let c = dropped report_in entry.Output m.outputs (λ x. refl) in
-    let s = dropped report_in entry.Sample m.samples (λ x. refl) in
-    let d = dropped report_in entry.Regs m.regs (λ x. refl) in
-    simp (filter_map-append, a, b, c, s, d)
+report_told : (m : Map) → filter_map report_in (entries_of m) ≡ report_of m ∷ []
+report_told m = by_entry report_in m ∙ simp none_kept
 
 -- A map is told by its entries.
 pub one_map : (m n : Map) → entries_of m ≡ entries_of n → m ≡ n
 one_map m n e =
-    let events = sym (events_of m) ∙ ap (filter_map event_in) e ∙ events_of n in
-    let states = sym (states_of m) ∙ ap (filter_map state_in) e ∙ states_of n in
-    let outputs = sym (outputs_of m) ∙ ap (filter_map output_in) e ∙ outputs_of n in
-    let samples = sym (samples_of m) ∙ ap (filter_map sample_in) e ∙ samples_of n in
+    let same : (k : Kind) → all_of k m ≡ all_of k n = λ k. sym (told k m) ∙ ap (filter_map (stated k)) e ∙ told k n in
     let readies = sym (ready_of m) ∙ ap (filter_map ready_in) e ∙ ready_of n in
-    let ranges = sym (ranges_of m) ∙ ap (filter_map range_in) e ∙ ranges_of n in
-    let reports = sym (reports_of m) ∙ ap (filter_map report_in) e ∙ reports_of n in
+    let reports = sym (report_told m) ∙ ap (filter_map report_in) e ∙ report_told n in
     let ready : m.ready ≡ n.ready = cc readies in
     let report : report_of m ≡ report_of n = cc reports in
     λ i. record {
-      events = events i;
-      states = states i;
-      outputs = outputs i;
-      samples = samples i;
+      events = same Events i;
+      states = same States i;
+      outputs = same Outputs i;
+      samples = same Samples i;
       ready = ready i;
-      regs = ranges i;
+      regs = same Ranges i;
       depth = (report i).depth;
       ram = (report i).ram;
       words = (report i).words;

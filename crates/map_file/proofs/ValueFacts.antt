@@ -31,16 +31,7 @@ source_utf8 s = IsUtf8-from_ascii (source_name s) (bytes_ascii (source_name s) (
   where
     go : (t : Source) → list_all (λ b. is_letter b || is_digit b) (source_name t) ≡ true
     go source.T0 = refl
-    go source.Int = refl
-    go source.Psp = refl
-    go source.Ad = refl
-    go source.Ssp = refl
-    go source.Ccp1 = refl
-    go source.Tmr2 = refl
-    go source.Tmr1 = refl
-    go source.Ee = refl
-    go source.Bcl = refl
-    go source.Ccp2 = refl
+    go _ = refl
 
 pub port_utf8 : (port : ℕ) → IsUtf8 (name_of_port port)
 port_utf8 port = IsUtf8-from_ascii (name_of_port port) (bytes_ascii (name_of_port port) (go port))

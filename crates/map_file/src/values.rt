@@ -74,18 +74,20 @@ pub fn decimal_in(field: &[u8], most: u32) -> Option<u32>
     if value <= most { Some(value) } else { None }
 }
 
+// The number, where it is below an end.
+fn below(n: u16, end: u16) -> Option<u16>
+    ensures { MatchOption result (end ≤ n) (λ found. (found ≡ n) × (n < end)) }
+{
+    if n < end { Some(n) } else { None }
+}
+
 /// The data address that the field writes in three digits.
 pub fn data_in(field: &[u8]) -> Option<u16>
     ensures { MatchOption result
         ((n : ℕ) → IsData n → field.now ≢ hex3 n)
         (λ n. IsData n × (field.now ≡ hex3 n)) }
 {
-    let address = hex3_in(field)?;
-    if address < DATA_END {
-        Some(address)
-    } else {
-        None
-    }
+    below(hex3_in(field)?, DATA_END)
 }
 
 /// The code address that the field writes in four digits.
@@ -94,12 +96,7 @@ pub fn code_in(field: &[u8]) -> Option<u16>
         ((n : ℕ) → IsCode n → field.now ≢ hex4 n)
         (λ n. IsCode n × (field.now ≡ hex4 n)) }
 {
-    let address = hex4_in(field)?;
-    if address < CODE_END {
-        Some(address)
-    } else {
-        None
-    }
+    below(hex4_in(field)?, CODE_END)
 }
 
 /// The range that the field writes as two data addresses with `-` between, the first not above the second.

@@ -1,7 +1,10 @@
-use Rattle.std.proofs.Common.{refl}
+use Rattle.std.proofs.Common.{refl, sym, subst}
 use Rattle.std.proofs.lemmas.Bool.{false≢true}
-use Rattle.map_file.proofs.ReadingFacts.{read_more, no_entry, not_added, no_line_there, read_whole, faulty_no_map, read_alone}
+use Rattle.map_file.proofs.ReadingFacts.{HasRead, read_start, read_more, no_entry, not_added, no_line_there, read_whole, faulty_no_map, read_alone}
 use Rattle.map_file.proofs.reader.read.Goals as goal
+
+pub loop-line-init : goal.loop-line-init
+loop-line-init c = subst (HasRead c.args.bytes.now c.args.bytes.now 1) (sym c.empty-draft.ensures) (read_start c.args.bytes.now)
 
 pub returns-in_default-2-clause-fault : goal.returns-in_default-2-clause-fault
 returns-in_default-2-clause-fault c =
