@@ -1,5 +1,5 @@
 -- Names of sources, and sets that grow by one source.
-use Rattle.std.proofs.Common.{◌≡◌, ◌≢◌, ℕ, zero, suc, ◌+◌, ◌<◌, ◌^◌, ◌||◌, Bool, true, false, nat_lt, List, [], ◌∷◌, subst, lit<, Option, Some, None, IfSome, IfNone, MatchOption, IsTrue, refl, sym, ap, ◌∙◌, arith}
+use Rattle.std.proofs.Common.{◌≡◌, ◌≢◌, ℕ, zero, suc, ◌+◌, ◌*◌, ◌<◌, ◌^◌, ◌||◌, Bool, true, false, nat_lt, List, [], ◌∷◌, subst, lit<, Option, Some, None, IfSome, IfNone, MatchOption, IsTrue, refl, sym, ap, ◌∙◌, arith}
 use Rattle.std.specs.List.{list_all}
 use Rattle.std.specs.Str.{bytes_eq, IsAscii, IsUtf8}
 use Rattle.std.proofs.lemmas.Bool.{ltb-true, and_parts}
@@ -22,16 +22,7 @@ ascii (b ∷ bs) h (suc i) = ascii bs (and_parts (nat_lt b 128) (list_all (λ b.
 
 name_ascii : (source : Source) → list_all (λ b. nat_lt b 128) (source_name source) ≡ true
 name_ascii T0 = refl
-name_ascii Int = refl
-name_ascii Psp = refl
-name_ascii Ad = refl
-name_ascii Ssp = refl
-name_ascii Ccp1 = refl
-name_ascii Tmr2 = refl
-name_ascii Tmr1 = refl
-name_ascii Ee = refl
-name_ascii Bcl = refl
-name_ascii Ccp2 = refl
+name_ascii _ = refl
 
 pub text_utf8 : (bs : List ℕ) → list_all (λ b. nat_lt b 128) bs ≡ true → IsUtf8 bs
 text_utf8 bs h = IsUtf8-from_ascii bs (ascii bs h)
@@ -42,16 +33,7 @@ name_utf8 source = text_utf8 (source_name source) (name_ascii source)
 -- A source's name is one, and what is no source's name isn't.
 pub is_source-name : (source : Source) → is_source (source_name source) ≡ true
 is_source-name T0 = refl
-is_source-name Int = refl
-is_source-name Psp = refl
-is_source-name Ad = refl
-is_source-name Ssp = refl
-is_source-name Ccp1 = refl
-is_source-name Tmr2 = refl
-is_source-name Tmr1 = refl
-is_source-name Ee = refl
-is_source-name Bcl = refl
-is_source-name Ccp2 = refl
+is_source-name _ = refl
 
 pub source-named : (name : List ℕ) (source : Source) → name ≡ source_name source → is_source name ≡ true
 source-named name source e = ap is_source e ∙ is_source-name source
@@ -80,31 +62,30 @@ named_answer field name (Some source) e some none = let is : field ≡ source_na
 abbrev pub with_source : Source → Sources → Sources
 with_source source set other = bytes_eq (source_name other) (source_name source) || set other
 
+number_of-with : (n : ℕ) (source : Source) → n < 2048 → n + 2 ^ source_number source ≡ number_of (with_source source (set_of n)) + 2 ^ source_number source * one_if (set_of n source)
+number_of-with n T0 below = omega (arith, number_of-set_of n below)
+number_of-with n Int below = omega (arith, number_of-set_of n below)
+number_of-with n Psp below = omega (arith, number_of-set_of n below)
+number_of-with n Ad below = omega (arith, number_of-set_of n below)
+number_of-with n Ssp below = omega (arith, number_of-set_of n below)
+number_of-with n Ccp1 below = omega (arith, number_of-set_of n below)
+number_of-with n Tmr2 below = omega (arith, number_of-set_of n below)
+number_of-with n Tmr1 below = omega (arith, number_of-set_of n below)
+number_of-with n Ee below = omega (arith, number_of-set_of n below)
+number_of-with n Bcl below = omega (arith, number_of-set_of n below)
+number_of-with n Ccp2 below = omega (arith, number_of-set_of n below)
+
 pub number_of-more : (n : ℕ) (source : Source) → n < 2048 → set_of n source ≡ false → n + 2 ^ source_number source ≡ number_of (with_source source (set_of n))
-number_of-more n T0 below h = let e : one_if (set_of n T0) ≡ 0 = ap one_if h in omega (arith, number_of-set_of n below)
-number_of-more n Int below h = let e : one_if (set_of n Int) ≡ 0 = ap one_if h in omega (arith, number_of-set_of n below)
-number_of-more n Psp below h = let e : one_if (set_of n Psp) ≡ 0 = ap one_if h in omega (arith, number_of-set_of n below)
-number_of-more n Ad below h = let e : one_if (set_of n Ad) ≡ 0 = ap one_if h in omega (arith, number_of-set_of n below)
-number_of-more n Ssp below h = let e : one_if (set_of n Ssp) ≡ 0 = ap one_if h in omega (arith, number_of-set_of n below)
-number_of-more n Ccp1 below h = let e : one_if (set_of n Ccp1) ≡ 0 = ap one_if h in omega (arith, number_of-set_of n below)
-number_of-more n Tmr2 below h = let e : one_if (set_of n Tmr2) ≡ 0 = ap one_if h in omega (arith, number_of-set_of n below)
-number_of-more n Tmr1 below h = let e : one_if (set_of n Tmr1) ≡ 0 = ap one_if h in omega (arith, number_of-set_of n below)
-number_of-more n Ee below h = let e : one_if (set_of n Ee) ≡ 0 = ap one_if h in omega (arith, number_of-set_of n below)
-number_of-more n Bcl below h = let e : one_if (set_of n Bcl) ≡ 0 = ap one_if h in omega (arith, number_of-set_of n below)
-number_of-more n Ccp2 below h = let e : one_if (set_of n Ccp2) ≡ 0 = ap one_if h in omega (arith, number_of-set_of n below)
+number_of-more n source below h =
+    let p = 2 ^ source_number source in
+    let e : n + p ≡ number_of (with_source source (set_of n)) + p * 0 = number_of-with n source below ∙ ap (λ b. number_of (with_source source (set_of n)) + p * one_if b) h in
+    omega arith
 
 pub number_of-same : (n : ℕ) (source : Source) → n < 2048 → set_of n source ≡ true → n ≡ number_of (with_source source (set_of n))
-number_of-same n T0 below h = let e : one_if (set_of n T0) ≡ 1 = ap one_if h in omega (arith, number_of-set_of n below)
-number_of-same n Int below h = let e : one_if (set_of n Int) ≡ 1 = ap one_if h in omega (arith, number_of-set_of n below)
-number_of-same n Psp below h = let e : one_if (set_of n Psp) ≡ 1 = ap one_if h in omega (arith, number_of-set_of n below)
-number_of-same n Ad below h = let e : one_if (set_of n Ad) ≡ 1 = ap one_if h in omega (arith, number_of-set_of n below)
-number_of-same n Ssp below h = let e : one_if (set_of n Ssp) ≡ 1 = ap one_if h in omega (arith, number_of-set_of n below)
-number_of-same n Ccp1 below h = let e : one_if (set_of n Ccp1) ≡ 1 = ap one_if h in omega (arith, number_of-set_of n below)
-number_of-same n Tmr2 below h = let e : one_if (set_of n Tmr2) ≡ 1 = ap one_if h in omega (arith, number_of-set_of n below)
-number_of-same n Tmr1 below h = let e : one_if (set_of n Tmr1) ≡ 1 = ap one_if h in omega (arith, number_of-set_of n below)
-number_of-same n Ee below h = let e : one_if (set_of n Ee) ≡ 1 = ap one_if h in omega (arith, number_of-set_of n below)
-number_of-same n Bcl below h = let e : one_if (set_of n Bcl) ≡ 1 = ap one_if h in omega (arith, number_of-set_of n below)
-number_of-same n Ccp2 below h = let e : one_if (set_of n Ccp2) ≡ 1 = ap one_if h in omega (arith, number_of-set_of n below)
+number_of-same n source below h =
+    let p = 2 ^ source_number source in
+    let e : n + p ≡ number_of (with_source source (set_of n)) + p * 1 = number_of-with n source below ∙ ap (λ b. number_of (with_source source (set_of n)) + p * one_if b) h in
+    omega arith
 
 pub number_of-below : (set : Sources) → number_of set < 2048
 number_of-below set =
@@ -113,16 +94,7 @@ number_of-below set =
 -- No source is in 0.
 pub set_of-zero : (source : Source) → set_of 0 source ≡ false
 set_of-zero T0 = refl
-set_of-zero Int = refl
-set_of-zero Psp = refl
-set_of-zero Ad = refl
-set_of-zero Ssp = refl
-set_of-zero Ccp1 = refl
-set_of-zero Tmr2 = refl
-set_of-zero Tmr1 = refl
-set_of-zero Ee = refl
-set_of-zero Bcl = refl
-set_of-zero Ccp2 = refl
+set_of-zero _ = refl
 
 pub set_of-some : (n : ℕ) (source : Source) → set_of n source ≡ true → 0 < n
 set_of-some zero source h = let e = set_of-zero source in cc
