@@ -1,5 +1,6 @@
 -- What the lexer answers of a text.
 use Rattle.std.specs.Prelude.{◌≡◌, ℕ, ◌<◌, ◌≤◌, List, length, Result, Ok, Err, ◌⊎◌}
+use Rattle.frp_tree.specs.declared.limits.TheConstants.{LONGEST_SOURCE}
 use Rattle.frp_tree.specs.declared.tokens.Token.{Token}
 use Rattle.frp_tree.specs.Tokens.{HasTokens, IsBadByte, IsTooBig}
 use Rattle.efrp_syntax.specs.declared.faults.SyntaxFault.{SyntaxFault}
@@ -13,8 +14,8 @@ OnlyMemory fault = fault ≡ Memory
 -- its first byte past the limit.
 abbrev pub Lexed : List ℕ → Result (List Token) SyntaxFault → Type 0
 Lexed text (Ok tokens) = HasTokens text tokens
-Lexed text (Err (BadByte place)) = (length text ≤ 65536) × IsBadByte text place
-Lexed text (Err (TooBig place)) = ((65536 < length text) × (place ≡ 65536)) ⊎ ((length text ≤ 65536) × IsTooBig text place)
+Lexed text (Err (BadByte place)) = (length text ≤ LONGEST_SOURCE) × IsBadByte text place
+Lexed text (Err (TooBig place)) = ((LONGEST_SOURCE < length text) × (place ≡ LONGEST_SOURCE)) ⊎ ((length text ≤ LONGEST_SOURCE) × IsTooBig text place)
 Lexed text (Err Memory) = Unit {0}
 Lexed text (Err (Unexpected tokens)) = ⊥
 Lexed text (Err (TooDeep token)) = ⊥

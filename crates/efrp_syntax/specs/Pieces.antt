@@ -6,6 +6,7 @@ use Rattle.text_parts.specs.Bytes.{is_digit, is_letter, is_hex_digit, begins}
 use Rattle.text_parts.specs.Numbers.{IsNumber}
 use Rattle.frp_tree.specs.Tokens.{marks, is_blank, IsLexeme, IsLongest, IsWithin, starts_word, starts_comment}
 use Rattle.frp_tree.specs.Prefixes.{Skips, IsFirstToken, IsLongestNumber}
+use Rattle.frp_tree.specs.declared.limits.TheConstants.{GREATEST_NUMBER}
 use Rattle.frp_tree.specs.declared.tokens.Token.{Token}
 use Rattle.efrp_syntax.specs.declared.classes.Class.{Class}
 use Rattle.efrp_syntax.specs.declared.classes.Class.TheVariants.{Word, Digit, HexDigit, Line}
@@ -27,7 +28,7 @@ pub record IsRun (p : ℕ → Bool) (text prefix more : List ℕ) : Type 0 where
 
 -- A number that is at most 65,535.
 abbrev pub fitting : ℕ → Option ℕ
-fitting n = if nat_le n 65535 then Some n else None
+fitting n = if nat_le n GREATEST_NUMBER then Some n else None
 
 -- The number at the beginning of a text, without a suffix, and what follows it. A value above 65,535 is None.
 pub record IsFirstNumber (text : List ℕ) (value : Option ℕ) (more : List ℕ) : Type 0 where

@@ -7,11 +7,9 @@ ghost use Rattle.efrp_syntax.specs.Lexed.{Lexed, OnlyMemory, IsRefused};
 
 use crate::faults::SyntaxFault;
 use crate::prefixes::{skipped, token};
+use frp_tree::limits::LONGEST_SOURCE;
 use frp_tree::{List, Token};
 use std::alloc::Global;
-
-/// The greatest length of a text, in bytes.
-const LONGEST_TEXT: usize = 65_536;
 
 /// Whether the token is a number, with a suffix or without.
 fn is_number(token: &Token) -> bool
@@ -22,7 +20,7 @@ fn is_number(token: &Token) -> bool
 
 /// The tokens of a text that isn't too long, or the first fault.
 fn cut(alloc: Global, text: &[u8]) -> Result<List<Token>, SyntaxFault>
-    requires { length text.now ≤ 65536 }
+    requires { length text.now ≤ LONGEST_SOURCE }
     ensures { Lexed text.now result }
 {
     let mut found = List::new(alloc);
@@ -55,10 +53,10 @@ pub fn lex(alloc: Global, text: &[u8]) -> Result<List<Token>, SyntaxFault>
     // A text with a fault has one, and is refused with it.
     ensures fault { (fault : Faults) → fault ≢ SyntaxFault.Memory → Lexed text.now (Err fault) → IsRefused fault result }
     // A text that is too long takes no memory.
-    ensures long { 65536 < length text.now → result ≡ Err (SyntaxFault.TooBig 65536) }
+    ensures long { LONGEST_SOURCE < length text.now → result ≡ Err (SyntaxFault.TooBig LONGEST_SOURCE) }
 {
-    if text.len() > LONGEST_TEXT {
-        return Err(SyntaxFault::TooBig(65_536));
+    if text.len() > LONGEST_SOURCE {
+        return Err(SyntaxFault::TooBig(LONGEST_SOURCE as u32));
     }
     cut(alloc, text)
 }

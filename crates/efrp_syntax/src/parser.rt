@@ -1,6 +1,7 @@
 // The program of a text, or its first fault.
 ghost use Rattle.std.specs.Prelude.{◌≡◌, ◌<◌, ◌≤◌, ◌^◌, length, ℕ, MatchResult, OnOk};
 ghost use Rattle.frp_tree.specs.declared.kinds.Kind.{Kind as Kinds};
+ghost use Rattle.frp_tree.specs.declared.limits.TheConstants.{LONGEST_SOURCE};
 ghost use Rattle.frp_tree.specs.Tree.{ProgramTree};
 ghost use Rattle.frp_tree.specs.Grammar.{HasTreeWithin, Spells};
 ghost use Rattle.efrp_syntax.specs.declared.faults.SyntaxFault.{SyntaxFault as Faults};
@@ -27,7 +28,7 @@ fn few(begun: &[Begun]) -> Result<(), SyntaxFault>
 
 /// The program of tokens, or their first fault.
 fn tree(alloc: Global, tokens: &[Token]) -> Result<Program, SyntaxFault>
-    requires { length tokens.now ≤ 65536 }
+    requires { length tokens.now ≤ LONGEST_SOURCE }
     ensures told { Told tokens.now result }
     ensures only { (p : ProgramTree) → HasTreeWithin p tokens.now → IsProgram p result }
 {

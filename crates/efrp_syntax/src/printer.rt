@@ -1,6 +1,7 @@
 // The text of a program.
 ghost use Rattle.std.specs.Prelude.{◌≡◌, ◌≤◌, ℕ, List as Bytes, ◌++◌, length, OnOk, IfOk, map};
 ghost use Rattle.std.specs.List.{flat_map};
+ghost use Rattle.frp_tree.specs.declared.limits.TheConstants.{LONGEST_SOURCE};
 ghost use Rattle.frp_tree.specs.Tree.{Table, Reactive, clause_of, behaviour_of, decl_of, output_of, program_tree_of};
 ghost use Rattle.frp_tree.specs.Grammar.{Spells, SpellsUnbounded};
 ghost use Rattle.frp_tree.specs.Printed.{clause_tokens, more_entry_tokens, entry_tokens, behaviour_tokens, event_item, setup_item, decl_item, output_item, spaced, line, printed};
@@ -202,7 +203,7 @@ pub fn print(alloc: Global, p: &Program) -> Result<List<u8>, AllocError>
     ensures printed { IfOk result (λ bytes. bytes ≡ printed (program_tree_of p.now)) }
     // It spells the program, if any text does; and within the limit of a text's length, where it isn't longer.
     ensures spells { (text : Bytes ℕ) → Spells text (program_tree_of p.now) → IfOk result (λ bytes. SpellsUnbounded bytes (program_tree_of p.now)) }
-    ensures short { (text : Bytes ℕ) → Spells text (program_tree_of p.now) → IfOk result (λ bytes. length bytes ≤ 65536 → Spells bytes (program_tree_of p.now)) }
+    ensures short { (text : Bytes ℕ) → Spells text (program_tree_of p.now) → IfOk result (λ bytes. length bytes ≤ LONGEST_SOURCE → Spells bytes (program_tree_of p.now)) }
 {
     let text = program(alloc, p)?;
     Ok(text.finish())

@@ -5,6 +5,8 @@ use Rattle.std.specs.List.{AllByRecursion}
 use Rattle.text_parts.specs.Bytes.{is_digit, is_letter}
 use Rattle.text_parts.specs.Names.{has_form_of_name}
 use Rattle.text_parts.specs.Numbers.{IsNumber}
+use Rattle.text_parts.specs.declared.names.TheConstants.{LONGEST_NAME}
+use Rattle.frp_tree.specs.declared.limits.TheConstants.{LONGEST_SOURCE, GREATEST_NUMBER}
 use Rattle.frp_tree.specs.declared.tokens.Token.{Token}
 use Rattle.frp_tree.specs.declared.tokens.Token.TheVariants as token
 
@@ -63,14 +65,14 @@ pub data Cuts : Bool → List ℕ → List Token → Bool → List ℕ → Type 
 
 -- Names have at most 31 bytes, and numbers are at most 65,535.
 abbrev pub IsWithin : Token → Type 0
-IsWithin (token.Word name) = length name ≤ 31
-IsWithin (token.Num n) = n ≤ 65535
-IsWithin (token.Wide n) = n ≤ 65535
+IsWithin (token.Word name) = length name ≤ LONGEST_NAME
+IsWithin (token.Num n) = n ≤ GREATEST_NUMBER
+IsWithin (token.Wide n) = n ≤ GREATEST_NUMBER
 IsWithin (token.Mark k) = Unit {0}
 
 -- The tokens of a text, all within the limits. A text has at most one such list.
 abbrev pub HasTokens : List ℕ → List Token → Type 0
-HasTokens text ts = (length text ≤ 65536) × (last : Bool) × Cuts false text ts last [] × AllByRecursion IsWithin ts
+HasTokens text ts = (length text ≤ LONGEST_SOURCE) × (last : Bool) × Cuts false text ts last [] × AllByRecursion IsWithin ts
 
 -- Tokens within the limits lead up to the byte at this place, where the rest begins.
 pub record Reaches (text : List ℕ) (place : ℕ) (after : Bool) (rest : List ℕ) : Type 0 where

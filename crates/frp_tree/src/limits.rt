@@ -1,5 +1,11 @@
 //! How much of each kind a program may have, and how deep its expressions may nest.
 
+/// The greatest length of a source text, in bytes.
+pub const LONGEST_SOURCE: usize = 65_536;
+
+/// The greatest number that a text may spell.
+pub const GREATEST_NUMBER: u32 = 65_535;
+
 /// The deepest nesting in an expression.
 pub const DEEPEST_NESTING: u32 = 64;
 
