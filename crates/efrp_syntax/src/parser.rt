@@ -50,11 +50,12 @@ fn tree(alloc: Global, tokens: &[Token]) -> Result<Program, SyntaxFault>
     }
 }
 
-/// The program that a text spells, in time linear in the text. Otherwise its fault: `BadByte` and `TooBig` tell a byte,
-/// and then the text has no tokens; `Unexpected(n)` tells that its first n tokens are the longest prefix with which some
-/// program begins; `TooDeep(n)` and `TooMany(kind)` tell of the first token past a limit of nesting or of counts, and
-/// come only where the tokens up to it begin a program, `TooDeep` before `TooMany` at one token. `Memory` is out of
-/// memory.
+/// The program that a text spells, or its fault. The time is linear in the text.
+///
+/// `BadByte` and `TooBig` come where the text has no tokens, and tell a byte. `Unexpected(n)` tells that the first n
+/// tokens are the longest prefix with which some program begins. `TooDeep(n)` and `TooMany(kind)` come at the first
+/// token past a limit, where the tokens up to it begin a program; at one token `TooDeep` comes first. `Memory` is out
+/// of memory.
 pub fn parse(alloc: Global, text: &[u8]) -> Result<Program, SyntaxFault>
     // The program that the text spells, or its fault.
     ensures parsed { Parsed text.now result }

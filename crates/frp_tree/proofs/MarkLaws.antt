@@ -29,9 +29,10 @@ use Rattle.frp_tree.specs.Cells.{Cell, plain, starting, node, opening_node, open
 use Rattle.frp_tree.specs.Grammar.{word, sign, SpellsExpr, literal, named, looked, brackets, signed, converted, chosen, shifted, joined, compared, alone, Row, none, next, SpellsEvent, SpellsSetup, later_cells, SpellsClause, more_entries, SpellsBehaviour, plainly, input, table, reactive, SpellsDecl, SpellsOutput, SpellsProgram}
 use Rattle.frp_tree.specs.Breaks.{Begins}
 
--- Where a reader of tokens is: between items; in one without marks of its own, up to its `;`; in the head of one, up to its
--- `=`; among clauses; among this many entries; in an expression, or behind a shift's mark or a conversion's word there. There
--- it is told whether a clause has the expression, the nesting, the nesting behind the operand, and those to come back to.
+-- Where a reader of tokens is: between items; in an item without marks of its own, up to its `;`; in the head of an item, up
+-- to its `=`; among clauses; or among entries, of which this many stand before. Or it is in an expression, or there behind a
+-- shift's mark or a conversion's word: with whether a clause has the expression, the nesting, the nesting behind the operand,
+-- and those to come back to.
 pub data Place : Type 0 where
   Between : Place
   Skipping : Place
