@@ -1,4 +1,4 @@
--- The program of a counter tells what the counter is.
+-- The program of a counter tells what the counter is, and so does a text that spells it.
 use Rattle.std.proofs.Common.{◌≡◌, ℕ, List, [], ◌∷◌, Option, Some, None, IfSome, refl, ap}
 use Rattle.pic_isa.proofs.UniqueNameLaws.{one_source, one_port, one_address}
 use Rattle.frp_tree.specs.declared.syntax.Event.{Event}
@@ -6,6 +6,8 @@ use Rattle.frp_tree.specs.declared.syntax.Setup.{Setup}
 use Rattle.frp_tree.specs.declared.syntax.Lit.TheVariants.{Plain}
 use Rattle.frp_tree.specs.declared.syntax.BinOp.TheVariants.{Add}
 use Rattle.frp_tree.specs.Tree.{Const, Name, Binary, Reactive, ClauseTree, DeclTree, OutputTree, ProgramTree}
+use Rattle.frp_tree.specs.Grammar.{Spells}
+use Rattle.frp_tree.proofs.OneTreeLaws.{one_program}
 use Rattle.counter_code.specs.declared.counters.Counter.{Counter}
 use Rattle.counter_code.specs.declared.counters.SetupAt.{SetupAt}
 use Rattle.counter_code.specs.Counters.{IsCounter, IsSetup, setups_of, program_of}
@@ -51,3 +53,6 @@ tree_tells c d h k e =
     let setup = setups_tell c.setup d.setup h.setup k.setup (ap (λ (p : ProgramTree). p.setups) e) in
     same_counter c d (ap (λ (x : Event). x.name) event) (one_source c.source d.source (ap (λ (x : Event). x.source) event)) (ap (λ (x : Event). x.priority) event) setup
     (ap (λ (x : DeclTree). x.name) decl) parts.0 step (one_port c.port d.port h.port k.port (ap (λ (x : OutputTree). x.port) output))
+
+pub text_tells : (text : List ℕ) (c d : Counter) → IsCounter c → IsCounter d → Spells text (program_of c) → Spells text (program_of d) → c ≡ d
+text_tells text c d h k s t = tree_tells c d h k (one_program text (program_of c) (program_of d) s t)

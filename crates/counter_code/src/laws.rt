@@ -1,15 +1,17 @@
 // The theorems about counters: one counter a tree, and firmware that keeps what it promises.
 
-ghost use Rattle.std.specs.Prelude.{◌≡◌};
+ghost use Rattle.std.specs.Prelude.{◌≡◌, ℕ, List};
+ghost use Rattle.frp_tree.specs.Grammar.{Spells};
 ghost use Rattle.firmware_promises.specs.Firmware.{AlwaysKeeps, AlwaysSettles};
 ghost use Rattle.counter_code.specs.declared.counters.Counter.{Counter as Counters};
 ghost use Rattle.counter_code.specs.Counters.{IsCounter, program_of};
 ghost use Rattle.counter_code.specs.Layout.{image_of};
 ghost use Rattle.counter_code.specs.Maps.{map_of};
 
-/// A tree of the first form is the program of one counter.
+/// A tree of the first form is the program of one counter, and so a text spells the program of one counter at most.
 pub fn one_counter()
-    ensures { (c d : Counters) → IsCounter c → IsCounter d → program_of c ≡ program_of d → c ≡ d }
+    ensures tree { (c d : Counters) → IsCounter c → IsCounter d → program_of c ≡ program_of d → c ≡ d }
+    ensures text { (text : List ℕ) (c d : Counters) → IsCounter c → IsCounter d → Spells text (program_of c) → Spells text (program_of d) → c ≡ d }
 {}
 
 /// From every start, whatever comes from outside and at every moment, the run of a counter's image keeps what the
