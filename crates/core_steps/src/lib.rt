@@ -1,0 +1,2 @@
+//! The steps of the core of lists that a log of the chip shows, and that they are allowed.
+#![tactic(auto)]
