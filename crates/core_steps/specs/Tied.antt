@@ -1,7 +1,7 @@
 -- The tie between a log of the chip and the core of lists.
-use Rattle.std.specs.Prelude.{◌≡◌, ℕ, zero, suc, List, [], ◌∷◌, ◌++◌, map, reverse, Option, Some, None}
+use Rattle.std.specs.Prelude.{◌≡◌, ℕ, zero, suc, List, [], ◌∷◌, ◌++◌, map, reverse, Some, None}
 use Rattle.frp_tree.specs.Tree.{ProgramTree}
-use Rattle.efrp_meaning.specs.Meaning.{Reaction, react, initial_state}
+use Rattle.efrp_meaning.specs.Meaning.{react, initial_state}
 use Rattle.pic_machine.specs.Run.{Log}
 use Rattle.map_file.specs.declared.maps.MapEvent.{MapEvent}
 use Rattle.map_file.specs.declared.maps.Map.{Map}

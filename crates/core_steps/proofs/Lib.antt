@@ -1,0 +1,3 @@
+pub mod AccountLaws
+pub mod CostLaws
+pub mod Examples

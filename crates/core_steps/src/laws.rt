@@ -1,0 +1,24 @@
+// The theorems on what a latch waits for, over a log of the chip, as contracts of functions that do nothing.
+
+ghost use Rattle.core_steps.specs.Laws.{StoriesAccount, StoriesRespond, ImagesAccount, ImagesRespond};
+
+/// In a log that has a story no latch waits longer than its response and what the others cost, in steps.
+pub fn stories_account()
+    ensures { StoriesAccount }
+{}
+
+/// In such a log, where each step begins with the chip that the one before it left, an event that is alone commits
+/// within its response.
+pub fn stories_respond()
+    ensures { StoriesRespond }
+{}
+
+/// In every run of an image each of whose runs has a story no latch waits longer than that.
+pub fn images_account()
+    ensures { ImagesAccount }
+{}
+
+/// And in every such run an event that is alone commits within its response.
+pub fn images_respond()
+    ensures { ImagesRespond }
+{}
