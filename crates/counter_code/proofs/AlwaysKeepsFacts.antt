@@ -12,8 +12,10 @@ use Rattle.timed_core.specs.Steps.Phase.{Boots, Rests as AtRest, Owes, Chooses, 
 use Rattle.timed_core.specs.Promises.{is_boot}
 use Rattle.core_story.specs.Values.{Values}
 use Rattle.core_story.specs.Interface.{Next, Seen, Simulated, is_rest, shows_state, nested}
-use Rattle.core_story.specs.Laws.{Maps}
+use Rattle.core_story.specs.Laws.{Maps, TellsStories}
 use Rattle.core_story.proofs.ImageLaws as images
+use Rattle.core_steps.specs.Laws.{AlwaysAccounted, AlwaysResponds}
+use Rattle.core_steps.proofs.AccountLaws.{images_account, images_respond}
 use Rattle.counter_code.specs.declared.counters.Counter.{Counter}
 use Rattle.counter_code.specs.Counters.{IsCounter, program_of}
 use Rattle.counter_code.specs.Layout.{image_of}
@@ -113,3 +115,12 @@ module _ (c : Counter) (fine : IsCounter c) where
 
   pub always_settles : AlwaysSettles (program_of c) (image_of c) (map_of c)
   always_settles = images.always_settles (program_of c) (image_of c) (map_of c) (timing_of c) (Sim c target) simulated maps
+
+  tells_stories : TellsStories (program_of c) (image_of c) (map_of c) (timing_of c)
+  tells_stories = images.tells_stories (program_of c) (image_of c) (map_of c) (timing_of c) (Sim c target) simulated maps.rules
+
+  pub always_accounted : AlwaysAccounted (program_of c) (image_of c) (map_of c)
+  always_accounted = images_account (program_of c) (image_of c) (map_of c) (timing_of c) maps tells_stories
+
+  pub always_responds : AlwaysResponds (program_of c) (image_of c) (map_of c)
+  always_responds = images_respond (program_of c) (image_of c) (map_of c) (timing_of c) maps tells_stories

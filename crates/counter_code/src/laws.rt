@@ -3,6 +3,7 @@
 ghost use Rattle.std.specs.Prelude.{◌≡◌, ℕ, List};
 ghost use Rattle.frp_tree.specs.Grammar.{Spells};
 ghost use Rattle.firmware_promises.specs.Firmware.{AlwaysKeeps, AlwaysSettles};
+ghost use Rattle.core_steps.specs.Laws.{AlwaysAccounted, AlwaysResponds};
 ghost use Rattle.counter_code.specs.declared.counters.Counter.{Counter as Counters};
 ghost use Rattle.counter_code.specs.Counters.{IsCounter, program_of};
 ghost use Rattle.counter_code.specs.Layout.{image_of};
@@ -23,4 +24,15 @@ pub fn keeps_promises()
 /// From every start it has settled where no source has arrived for the steps that the map reports.
 pub fn settles()
     ensures { (c : Counters) → IsCounter c → AlwaysSettles (program_of c) (image_of c) (map_of c) }
+{}
+
+/// In every run of a counter's image, from its ready boundary on, no latch waits longer than the response and what other
+/// events cost.
+pub fn accounts()
+    ensures { (c : Counters) → IsCounter c → AlwaysAccounted (program_of c) (image_of c) (map_of c) }
+{}
+
+/// In every such run the event commits within its response where it is alone.
+pub fn responds()
+    ensures { (c : Counters) → IsCounter c → AlwaysResponds (program_of c) (image_of c) (map_of c) }
 {}

@@ -12,3 +12,4 @@ mod laws;
 
 pub use counters::{Counter, SetupAt};
 pub use laws::{keeps_promises, one_counter, settles};
+pub use laws::{accounts, keeps_promises, one_program, responds, settles};
