@@ -1,4 +1,5 @@
 pub mod AccountLaws
+pub mod ArriveLaws
 pub mod ChosenLaws
 pub mod CostLaws
 pub mod Examples
