@@ -4,3 +4,4 @@ pub mod ChosenLaws
 pub mod CostLaws
 pub mod Examples
 pub mod ShownLaws
+pub mod StandLaws
