@@ -5,3 +5,4 @@ pub mod CostLaws
 pub mod Examples
 pub mod ShownLaws
 pub mod StandLaws
+pub mod TakeLaws
