@@ -6,3 +6,4 @@ pub mod Examples
 pub mod ShownLaws
 pub mod StandLaws
 pub mod TakeLaws
+pub mod UrgentLaws
