@@ -2,8 +2,10 @@ pub mod AccountLaws
 pub mod ArriveLaws
 pub mod ChosenLaws
 pub mod CostLaws
+pub mod EffectLaws
 pub mod Examples
 pub mod ShownLaws
 pub mod StandLaws
 pub mod TakeLaws
+pub mod TieLaws
 pub mod UrgentLaws

@@ -23,7 +23,7 @@ stands_later last n k (r ∷ rs) [] h s = absurd s
 before_test : (a b : ℕ) → a < b → nat_lt a b ≡ true
 before_test a b h = grind (arith, nat_tests)
 
-not_before : (a b : ℕ) → b ≤ a → nat_lt a b ≡ false
+pub not_before : (a b : ℕ) → b ≤ a → nat_lt a b ≡ false
 not_before a b h = grind (arith, nat_tests)
 
 -- After one more commit all are void.

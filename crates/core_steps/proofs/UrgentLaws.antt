@@ -21,7 +21,7 @@ event_below (e ∷ es) zero h = (e, refl)
 event_below (e ∷ es) (suc x) h = event_below es x (omega (arith, h))
 
 module _ (p : ProgramTree) (m : Map) (is_map : IsMap m) (t : Timing) (fitted : Fitted p m t) where
-  level_of : (x : ℕ) → priority (priorities_of m) x ≡ t.level x
+  pub level_of : (x : ℕ) → priority (priorities_of m) x ≡ t.level x
   level_of x = priority_is m x ∙ sym (fitted.level x)
 
   -- Where all that wait but it were set at the taking.
