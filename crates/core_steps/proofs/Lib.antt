@@ -1,5 +1,6 @@
 pub mod AccountLaws
 pub mod ArriveLaws
+pub mod ArrivingLaws
 pub mod ChosenLaws
 pub mod CostLaws
 pub mod EffectLaws
@@ -8,4 +9,5 @@ pub mod ShownLaws
 pub mod StandLaws
 pub mod TakeLaws
 pub mod TieLaws
+pub mod TiedLaws
 pub mod UrgentLaws
