@@ -11,5 +11,4 @@ mod counters;
 mod laws;
 
 pub use counters::{Counter, SetupAt};
-pub use laws::{keeps_promises, one_counter, settles};
-pub use laws::{accounts, keeps_promises, one_program, responds, settles};
+pub use laws::{accounts, keeps_promises, one_counter, responds, settles};
