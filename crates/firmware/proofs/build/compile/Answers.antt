@@ -1,5 +1,5 @@
 use Rattle.counter_code.proofs.MapLaws.{map_rules}
-use Rattle.counter_code.proofs.FirmwareLaws.{counter_is_firmware}
+use Rattle.counter_code.proofs.FirmwareLaws.{counter_is_firmware, counter_is_in_time}
 use Rattle.firmware.proofs.build.compile.Goals as goal
 
 pub returns-clause-rules : goal.returns-clause-rules
@@ -7,3 +7,6 @@ returns-clause-rules c = rw c.in_ok-map.ensures (map_rules c.args.counter.now c.
 
 pub returns-clause-firmware : goal.returns-clause-firmware
 returns-clause-firmware c = rw (c.in_ok-image.ensures.image, c.in_ok-map.ensures) (counter_is_firmware c.args.counter.now c.requires)
+
+pub returns-clause-in_time : goal.returns-clause-in_time
+returns-clause-in_time c = rw (c.in_ok-image.ensures.image, c.in_ok-map.ensures) (counter_is_in_time c.args.counter.now c.requires)
