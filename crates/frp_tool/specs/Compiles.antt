@@ -8,6 +8,7 @@ use Rattle.edge_io.specs.Counts.{Rose}
 use Rattle.map_file.specs.declared.maps.Map.{Map}
 use Rattle.map_file.specs.MapText.{map_text}
 use Rattle.firmware_promises.specs.Firmware.{IsFirmware}
+use Rattle.core_steps.specs.InTime.{IsInTime}
 use Rattle.frp_tree.specs.Tree.{ProgramTree}
 use Rattle.frp_tree.specs.Grammar.{Spells}
 use Rattle.counter_code.specs.declared.counters.Counter.{Counter}
@@ -27,12 +28,13 @@ pub record CompileRequest : Type 0 where
   pub map : List ℕ
 
 -- What `compile` makes of a program: the bytes of HEX, and a map, whose text is written to MAP. The bytes and the text are
--- firmware for the program.
+-- firmware for the program, and react in time.
 pub record Firmware : Type 0 where
   pub program : ProgramTree
   pub hex : List ℕ
   pub map : Map
   pub is_firmware : IsFirmware program hex (map_text map)
+  pub in_time : IsInTime program hex (map_text map)
 
 -- What a `compile` comes to: the source gives no program of the first form; its HEX wasn't written; its map wasn't written; all was done.
 pub data CompileVerdict : Type 0 where
@@ -107,11 +109,11 @@ Compiles r before after status =
     ⊎ ((v : CompileVerdict) × CompileCause r before.files after.files v × CompileLeft r before.files after.files v × Ends before.out after.out (compile_status v) (compile_line r v) status)
 
 -- With 0, where files and the bytes put are told, the source spells a program of the first form; HEX and MAP hold bytes that
--- are firmware for it, those of MAP being the text of a map; all other files are as before; and the summary of that map was
--- put.
+-- are firmware for it and react in time, those of MAP being the text of a map; all other files are as before; and the summary
+-- of that map was put.
 abbrev pub CompileDone : CompileRequest → Outside → Outside → Type 0
 CompileDone r before after = (p : ProgramTree) × SourceSpells r.source before.files p
-    × (hex : List ℕ) × (m : Map) × IsFirmware p hex (map_text m)
+    × (hex : List ℕ) × (m : Map) × IsFirmware p hex (map_text m) × IsInTime p hex (map_text m)
     × BothTold before.files after.files (λ old new. Has new r.hex hex × Has new r.map (map_text m) × OthersAsBefore r old new)
     × Appends before.out.taken after.out.taken (summary m p)
 
@@ -151,7 +153,8 @@ pub record CompilePromises (r : CompileRequest) (before after : Outside) (status
   pub files : BothTold before.files after.files (OthersAsBefore r)
   pub complete : CompileCompletes r before after status
 
--- The bytes of HEX and MAP and the line that `compile` makes for the program that a counter stands for: firmware for it, the
--- second the text of a map, and the summary of that map.
+-- The bytes of HEX and MAP and the line that `compile` makes for the program that a counter stands for: firmware for it that
+-- reacts in time, the second the text of a map, and the summary of that map.
 abbrev pub AreTexts : Counter → List ℕ → List ℕ → List ℕ → Type 0
-AreTexts c hex text line = (m : Map) × (text ≡ map_text m) × IsFirmware (program_of c) hex (map_text m) × (line ≡ summary m (program_of c))
+AreTexts c hex text line =
+    (m : Map) × (text ≡ map_text m) × IsFirmware (program_of c) hex (map_text m) × IsInTime (program_of c) hex (map_text m) × (line ≡ summary m (program_of c))
