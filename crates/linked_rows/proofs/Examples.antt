@@ -1,0 +1,2 @@
+-- Calls and an array, computed.
+pub mod Moves

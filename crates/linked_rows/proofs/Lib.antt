@@ -1,0 +1,4 @@
+pub mod ChainFacts
+pub mod Examples
+pub mod LinkedFacts
+pub mod RowFacts
