@@ -1,4 +1,4 @@
-pub mod InTime
 pub mod Laws
 pub mod LogSteps
+pub mod Scheduled
 pub mod Tied

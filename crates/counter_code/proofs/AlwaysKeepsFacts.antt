@@ -14,8 +14,9 @@ use Rattle.core_story.specs.Values.{Values}
 use Rattle.core_story.specs.Interface.{Next, Seen, Simulated, is_rest, shows_state, nested}
 use Rattle.core_story.specs.Laws.{Maps, TellsStories}
 use Rattle.core_story.proofs.ImageLaws as images
-use Rattle.core_steps.specs.Laws.{AlwaysAccounted, AlwaysResponds}
+use Rattle.core_steps.specs.Laws.{AlwaysAccounted, AlwaysResponds, AlwaysTied}
 use Rattle.core_steps.proofs.AccountLaws.{images_account, images_respond}
+use Rattle.core_steps.proofs.TiedLaws.{images_tied}
 use Rattle.counter_code.specs.declared.counters.Counter.{Counter}
 use Rattle.counter_code.specs.Counters.{IsCounter, program_of}
 use Rattle.counter_code.specs.Layout.{image_of}
@@ -124,3 +125,6 @@ module _ (c : Counter) (fine : IsCounter c) where
 
   pub always_responds : AlwaysResponds (program_of c) (image_of c) (map_of c)
   always_responds = images_respond (program_of c) (image_of c) (map_of c) (timing_of c) maps tells_stories
+
+  pub always_tied : AlwaysTied (program_of c) (image_of c) (map_of c)
+  always_tied = images_tied (program_of c) (image_of c) (map_of c) (timing_of c) maps tells_stories

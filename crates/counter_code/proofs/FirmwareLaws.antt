@@ -4,12 +4,12 @@ use Rattle.hex_file.specs.Written.{written}
 use Rattle.hex_file.proofs.WrittenLaws.{written_means_image}
 use Rattle.map_file.specs.MapText.{map_text}
 use Rattle.firmware_promises.specs.Firmware.{IsFirmware}
-use Rattle.core_steps.specs.InTime.{IsInTime}
+use Rattle.core_steps.specs.Scheduled.{IsScheduled}
 use Rattle.counter_code.specs.declared.counters.Counter.{Counter}
 use Rattle.counter_code.specs.Counters.{IsCounter, program_of}
 use Rattle.counter_code.specs.Layout.{image_of}
 use Rattle.counter_code.specs.Maps.{map_of}
-use Rattle.counter_code.proofs.AlwaysKeepsFacts.{always_keeps, always_settles, always_accounted, always_responds}
+use Rattle.counter_code.proofs.AlwaysKeepsFacts.{always_keeps, always_settles, always_accounted, always_responds, always_tied}
 use Rattle.counter_code.proofs.CodeLaws.{writable}
 use Rattle.counter_code.proofs.ListsRightlyFacts.{lists_rightly}
 use Rattle.counter_code.proofs.MapLaws.{map_rules}
@@ -33,8 +33,8 @@ counter_is_firmware c fine = record {
   settles = always_settles c fine;
 }
 
-pub counter_is_in_time : (c : Counter) → IsCounter c → IsInTime (program_of c) (written (image_of c)) (map_text (map_of c))
-counter_is_in_time c fine = record {
+pub counter_is_scheduled : (c : Counter) → IsCounter c → IsScheduled (program_of c) (written (image_of c)) (map_text (map_of c))
+counter_is_scheduled c fine = record {
   image = image_of c;
   firmware_map = map_of c;
   means = written_means_image (image_of c) (writable c fine) refl;
@@ -42,4 +42,5 @@ counter_is_in_time c fine = record {
   is_text = refl;
   accounted = always_accounted c fine;
   responds = always_responds c fine;
+  tied = always_tied c fine;
 }

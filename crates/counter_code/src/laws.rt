@@ -3,7 +3,7 @@
 ghost use Rattle.std.specs.Prelude.{◌≡◌, ℕ, List};
 ghost use Rattle.frp_tree.specs.Grammar.{Spells};
 ghost use Rattle.firmware_promises.specs.Firmware.{AlwaysKeeps, AlwaysSettles};
-ghost use Rattle.core_steps.specs.Laws.{AlwaysAccounted, AlwaysResponds};
+ghost use Rattle.core_steps.specs.Laws.{AlwaysAccounted, AlwaysResponds, AlwaysTied};
 ghost use Rattle.counter_code.specs.declared.counters.Counter.{Counter as Counters};
 ghost use Rattle.counter_code.specs.Counters.{IsCounter, program_of};
 ghost use Rattle.counter_code.specs.Layout.{image_of};
@@ -35,4 +35,9 @@ pub fn accounts()
 /// In every such run the event commits within its response where it is alone.
 pub fn responds()
     ensures { (c : Counters) → IsCounter c → AlwaysResponds (program_of c) (image_of c) (map_of c) }
+{}
+
+/// Every such run is tied to the core of lists: its steps are allowed there, with the same events taken and committed.
+pub fn tied()
+    ensures { (c : Counters) → IsCounter c → AlwaysTied (program_of c) (image_of c) (map_of c) }
 {}

@@ -11,4 +11,4 @@ mod counters;
 mod laws;
 
 pub use counters::{Counter, SetupAt};
-pub use laws::{accounts, keeps_promises, one_counter, responds, settles};
+pub use laws::{accounts, keeps_promises, one_counter, responds, settles, tied};

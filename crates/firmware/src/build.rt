@@ -5,7 +5,7 @@ ghost use Rattle.hex_file.specs.Written.{IsWritable, written};
 ghost use Rattle.map_file.specs.MapRules.{IsMap};
 ghost use Rattle.map_file.specs.MapText.{map_text};
 ghost use Rattle.firmware_promises.specs.Firmware.{IsFirmware};
-ghost use Rattle.core_steps.specs.InTime.{IsInTime};
+ghost use Rattle.core_steps.specs.Scheduled.{IsScheduled};
 ghost use Rattle.counter_code.specs.Counters.{IsCounter, program_of};
 ghost use Rattle.counter_code.specs.Layout.{code_of, image_of};
 ghost use Rattle.counter_code.specs.Maps.{map_of};
@@ -84,8 +84,8 @@ pub fn compile(alloc: Global, counter: &Counter) -> Result<Built, AllocError>
     ensures rules { IfOk result (λ built. IsMap built.map) }
     // Their bytes are firmware for the program.
     ensures firmware { IfOk result (λ built. IsFirmware (program_of counter.now) (written built.image) (map_text built.map)) }
-    // And they react in time.
-    ensures in_time { IfOk result (λ built. IsInTime (program_of counter.now) (written built.image) (map_text built.map)) }
+    // And they treat events in time and in order.
+    ensures scheduled { IfOk result (λ built. IsScheduled (program_of counter.now) (written built.image) (map_text built.map)) }
 {
     let image = image(alloc, counter)?;
     let words = image.words.len() as u16;

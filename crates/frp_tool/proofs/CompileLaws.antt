@@ -150,7 +150,7 @@ module _ (r : CompileRequest) (before after : Outside) (status : ℕ) where
   done_by (NoProgram (Refused reading)) (cause, left, is, put) e = absurd (omega (arith, is, e))
   done_by (HexFailed c) (cause, left, is, put) e = absurd (omega (arith, is, e))
   done_by (MapFailed f) (cause, left, is, put) e = absurd (omega (arith, is, e))
-  done_by (Done f) (cause, left, is, put) e = (f.program, cause, f.hex, f.map, f.is_firmware, f.in_time, left, put)
+  done_by (Done f) (cause, left, is, put) e = (f.program, cause, f.hex, f.map, f.is_firmware, f.is_scheduled, left, put)
 
   -- Where the source isn't held, that is the verdict.
   not_held_is_due : (held : Held) → before.files.told ≡ Some held → held r.source ≡ None → (v : CompileVerdict) → CompileCause r before.files after.files v → DueOrYielded (compile_status v) status → DueOrYielded 3 status

@@ -8,7 +8,7 @@ use Rattle.edge_io.specs.Counts.{Rose}
 use Rattle.map_file.specs.declared.maps.Map.{Map}
 use Rattle.map_file.specs.MapText.{map_text}
 use Rattle.firmware_promises.specs.Firmware.{IsFirmware}
-use Rattle.core_steps.specs.InTime.{IsInTime}
+use Rattle.core_steps.specs.Scheduled.{IsScheduled}
 use Rattle.frp_tree.specs.Tree.{ProgramTree}
 use Rattle.frp_tree.specs.Grammar.{Spells}
 use Rattle.counter_code.specs.declared.counters.Counter.{Counter}
@@ -34,7 +34,7 @@ pub record Firmware : Type 0 where
   pub hex : List ℕ
   pub map : Map
   pub is_firmware : IsFirmware program hex (map_text map)
-  pub in_time : IsInTime program hex (map_text map)
+  pub is_scheduled : IsScheduled program hex (map_text map)
 
 -- What a `compile` comes to: the source gives no program of the first form; its HEX wasn't written; its map wasn't written; all was done.
 pub data CompileVerdict : Type 0 where
@@ -113,7 +113,7 @@ Compiles r before after status =
 -- of that map was put.
 abbrev pub CompileDone : CompileRequest → Outside → Outside → Type 0
 CompileDone r before after = (p : ProgramTree) × SourceSpells r.source before.files p
-    × (hex : List ℕ) × (m : Map) × IsFirmware p hex (map_text m) × IsInTime p hex (map_text m)
+    × (hex : List ℕ) × (m : Map) × IsFirmware p hex (map_text m) × IsScheduled p hex (map_text m)
     × BothTold before.files after.files (λ old new. Has new r.hex hex × Has new r.map (map_text m) × OthersAsBefore r old new)
     × Appends before.out.taken after.out.taken (summary m p)
 
@@ -157,4 +157,4 @@ pub record CompilePromises (r : CompileRequest) (before after : Outside) (status
 -- reacts in time, the second the text of a map, and the summary of that map.
 abbrev pub AreTexts : Counter → List ℕ → List ℕ → List ℕ → Type 0
 AreTexts c hex text line =
-    (m : Map) × (text ≡ map_text m) × IsFirmware (program_of c) hex (map_text m) × IsInTime (program_of c) hex (map_text m) × (line ≡ summary m (program_of c))
+    (m : Map) × (text ≡ map_text m) × IsFirmware (program_of c) hex (map_text m) × IsScheduled (program_of c) hex (map_text m) × (line ≡ summary m (program_of c))

@@ -1,5 +1,5 @@
 use Rattle.counter_code.proofs.MapLaws.{map_rules}
-use Rattle.counter_code.proofs.FirmwareLaws.{counter_is_firmware, counter_is_in_time}
+use Rattle.counter_code.proofs.FirmwareLaws.{counter_is_firmware, counter_is_scheduled}
 use Rattle.firmware.proofs.build.compile.Goals as goal
 
 pub returns-clause-rules : goal.returns-clause-rules
@@ -8,5 +8,5 @@ returns-clause-rules c = rw c.in_ok-map.ensures (map_rules c.args.counter.now c.
 pub returns-clause-firmware : goal.returns-clause-firmware
 returns-clause-firmware c = rw (c.in_ok-image.ensures.image, c.in_ok-map.ensures) (counter_is_firmware c.args.counter.now c.requires)
 
-pub returns-clause-in_time : goal.returns-clause-in_time
-returns-clause-in_time c = rw (c.in_ok-image.ensures.image, c.in_ok-map.ensures) (counter_is_in_time c.args.counter.now c.requires)
+pub returns-clause-scheduled : goal.returns-clause-scheduled
+returns-clause-scheduled c = rw (c.in_ok-image.ensures.image, c.in_ok-map.ensures) (counter_is_scheduled c.args.counter.now c.requires)
