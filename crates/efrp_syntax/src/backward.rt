@@ -1,11 +1,11 @@
 // A text that is written from its end to its beginning.
-ghost use Rattle.std.specs.Prelude.{◌≡◌, [], ◌∷◌, ◌++◌, OnOk, get_or, codes};
+ghost use Rattle.std.specs.Prelude.{◌≡◌, [], ◌∷◌, ◌++◌, OnOk};
 ghost use Rattle.std.specs.Fmt.{decimal};
-ghost use Rattle.frp_tree.specs.Tokens.{marks};
 ghost use Rattle.frp_tree.specs.Cells.{literal_token};
 ghost use Rattle.frp_tree.specs.Printed.{spaced};
 ghost use Rattle.frp_tree.specs.declared.tokens.Token.TheVariants.{Word, Num, Mark};
 
+use crate::marks::text_of;
 use frp_tree::{List, Lit};
 use std::alloc::{AllocError, Global};
 use std::marker::Model;
@@ -23,46 +23,6 @@ impl Model for Backward {
     ghost Value = { List ℕ };
 
     ghost view = { λ text. reverse text.bytes.items };
-}
-
-/// How the mark of this number is written; there is none from 31 on.
-fn mark_text(number: u8) -> &'static str
-    ensures { result.now ≡ get_or marks number [] }
-{
-    match number {
-        0 => ";",
-        1 => ":",
-        2 => "=",
-        3 => "{",
-        4 => "}",
-        5 => "(",
-        6 => ")",
-        7 => "=>",
-        8 => "||",
-        9 => "&&",
-        10 => "==",
-        11 => "!=",
-        12 => "<",
-        13 => "<=",
-        14 => ">",
-        15 => ">=",
-        16 => "|",
-        17 => "^",
-        18 => "&",
-        19 => "<<",
-        20 => ">>",
-        21 => "+",
-        22 => "-",
-        23 => "*",
-        24 => "/",
-        25 => "%",
-        26 => "~",
-        27 => "!",
-        28 => "[",
-        29 => "]",
-        30 => ",",
-        _ => "",
-    }
 }
 
 impl Backward {
@@ -109,7 +69,7 @@ impl Backward {
         ensures { OnOk result (self.new ≡ spaced (Mark number ∷ []) ++ self.old) }
     {
         self.put(b" ")?;
-        self.put(mark_text(number).as_bytes())
+        self.put(text_of(number).as_bytes())
     }
 
     /// Puts a number and a space before the text.
