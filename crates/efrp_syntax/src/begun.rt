@@ -1,5 +1,5 @@
-// What a token begins, and why a reader of tokens stops.
-use frp_tree::Kind;
+// What a token begins, and what a reader of tokens answers.
+use frp_tree::{Kind, List, Token};
 use std::alloc::{AllocError, AllocFailed};
 
 /// What one token begins: the kind of it, if it is counted; and, where it is an entry, its number in its table, from
@@ -9,6 +9,9 @@ pub struct Begun {
     pub kind: Option<Kind>,
     pub entry: usize,
 }
+
+/// What the tokens that were read begin, one for each.
+pub type Notes = List<Begun>;
 
 /// Nothing that is counted.
 pub const NOTHING: Begun = Begun {
@@ -32,6 +35,9 @@ pub enum Stop {
     /// Out of memory.
     Memory,
 }
+
+/// What a reader of tokens answers: what it read and the tokens behind that, or why it stops.
+pub type Read<'a, T> = Result<(T, &'a [Token]), Stop>;
 
 impl From<AllocError> for Stop {
     ghost use Rattle.std.specs.Prelude.{◌≡◌};

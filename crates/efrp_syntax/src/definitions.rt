@@ -11,7 +11,7 @@ ghost use Rattle.efrp_syntax.specs.Answers.{head, Answers, Anything};
 ghost use Rattle.efrp_syntax.specs.Expressions.{Stops};
 ghost use Rattle.efrp_syntax.specs.Items.{StartsWord, StartsMark, StartsName, Ends, EndsItem, TypeOf, Later, EntryOf, EntriesBehind, PlainForm, InputForm, TableForm, ReactiveForm};
 
-use crate::begun::{Begun, NOTHING, Stop};
+use crate::begun::{Begun, NOTHING, Notes, Read, Stop};
 use crate::expressions::expression;
 use crate::readers::{literal, mark, name, word};
 use crate::starts::{begins, begins_with_mark, begins_with_name};
@@ -36,7 +36,7 @@ fn first_type(tokens: &[Token]) -> Option<Ty>
 }
 
 /// Reads a type.
-fn ty<'a>(tokens: &'a [Token], begun: &mut List<Begun>) -> Result<(Ty, &'a [Token]), Stop>
+fn ty<'a>(tokens: &'a [Token], begun: &mut Notes) -> Read<'a, Ty>
     ensures { Answers TypeOf Anything (λ t. t) tokens.now begun.old begun.new result }
 {
     match first_type(tokens) {
@@ -49,7 +49,7 @@ fn ty<'a>(tokens: &'a [Token], begun: &mut List<Begun>) -> Result<(Ty, &'a [Toke
 }
 
 /// Reads `later`, or nothing.
-fn later<'a>(tokens: &'a [Token], begun: &mut List<Begun>) -> Result<(bool, &'a [Token]), Stop>
+fn later<'a>(tokens: &'a [Token], begun: &mut Notes) -> Read<'a, bool>
     ensures { Answers Later (Ends (StartsWord (codes "later"))) (λ b. b) tokens.now begun.old begun.new result }
 {
     if begins("later", tokens) {
@@ -61,11 +61,7 @@ fn later<'a>(tokens: &'a [Token], begun: &mut List<Begun>) -> Result<(bool, &'a 
 }
 
 /// Reads a clause.
-fn clause<'a>(
-    alloc: Global,
-    tokens: &'a [Token],
-    begun: &mut List<Begun>,
-) -> Result<(Clause, &'a [Token]), Stop>
+fn clause<'a>(alloc: Global, tokens: &'a [Token], begun: &mut Notes) -> Read<'a, Clause>
     ensures { Answers SpellsClause Anything clause_of tokens.now begun.old begun.new result }
 {
     let (event, rest) = name(alloc, NOTHING, tokens, begun)?;
@@ -77,11 +73,7 @@ fn clause<'a>(
 }
 
 /// Reads the clauses of a reactive definition.
-fn clauses<'a>(
-    alloc: Global,
-    tokens: &'a [Token],
-    begun: &mut List<Begun>,
-) -> Result<(List<Clause>, &'a [Token]), Stop>
+fn clauses<'a>(alloc: Global, tokens: &'a [Token], begun: &mut Notes) -> Read<'a, List<Clause>>
     ensures { Answers (Row SpellsClause) (Ends StartsName) (map clause_of) tokens.now begun.old begun.new result }
 {
     let mut found = List::new(alloc);
@@ -95,11 +87,7 @@ fn clauses<'a>(
 }
 
 /// Reads a comma and the entry of a table behind it, which has this number.
-fn next_entry<'a>(
-    number: usize,
-    tokens: &'a [Token],
-    begun: &mut List<Begun>,
-) -> Result<(Lit, &'a [Token]), Stop>
+fn next_entry<'a>(number: usize, tokens: &'a [Token], begun: &mut Notes) -> Read<'a, Lit>
     ensures { Answers (EntryOf number) Anything (λ l. l) tokens.now begun.old begun.new result }
 {
     let rest = mark(marks::COMMA, NOTHING, tokens, begun)?;
@@ -116,8 +104,8 @@ fn entries<'a>(
     alloc: Global,
     first: Lit,
     tokens: &'a [Token],
-    begun: &mut List<Begun>,
-) -> Result<(List<Lit>, &'a [Token]), Stop>
+    begun: &mut Notes,
+) -> Read<'a, List<Lit>>
     ensures { Answers (EntriesBehind (first ∷ [])) (Ends (StartsMark mark.COMMA)) (λ ls. ls) tokens.now begun.old begun.new result }
 {
     let mut found = List::new(alloc);
@@ -132,11 +120,7 @@ fn entries<'a>(
 }
 
 /// Reads a behaviour that is an expression.
-fn plain<'a>(
-    alloc: Global,
-    tokens: &'a [Token],
-    begun: &mut List<Begun>,
-) -> Result<(Behaviour, &'a [Token]), Stop>
+fn plain<'a>(alloc: Global, tokens: &'a [Token], begun: &mut Notes) -> Read<'a, Behaviour>
     ensures { Answers PlainForm (Stops level.Whole) behaviour_of tokens.now begun.old begun.new result }
 {
     let (expr, rest) = expression(alloc, tokens, begun)?;
@@ -144,11 +128,7 @@ fn plain<'a>(
 }
 
 /// Reads an input.
-fn input<'a>(
-    alloc: Global,
-    tokens: &'a [Token],
-    begun: &mut List<Begun>,
-) -> Result<(Behaviour, &'a [Token]), Stop>
+fn input<'a>(alloc: Global, tokens: &'a [Token], begun: &mut Notes) -> Read<'a, Behaviour>
     ensures { Answers InputForm Anything behaviour_of tokens.now begun.old begun.new result }
 {
     let rest = word("input", NOTHING, tokens, begun)?;
@@ -157,11 +137,7 @@ fn input<'a>(
 }
 
 /// Reads a table.
-fn table<'a>(
-    alloc: Global,
-    tokens: &'a [Token],
-    begun: &mut List<Begun>,
-) -> Result<(Behaviour, &'a [Token]), Stop>
+fn table<'a>(alloc: Global, tokens: &'a [Token], begun: &mut Notes) -> Read<'a, Behaviour>
     ensures { Answers TableForm Anything behaviour_of tokens.now begun.old begun.new result }
 {
     let rest = word("table", NOTHING, tokens, begun)?;
@@ -177,11 +153,7 @@ fn table<'a>(
 }
 
 /// Reads a behaviour with a first value and clauses.
-fn reactive<'a>(
-    alloc: Global,
-    tokens: &'a [Token],
-    begun: &mut List<Begun>,
-) -> Result<(Behaviour, &'a [Token]), Stop>
+fn reactive<'a>(alloc: Global, tokens: &'a [Token], begun: &mut Notes) -> Read<'a, Behaviour>
     ensures { Answers ReactiveForm Anything behaviour_of tokens.now begun.old begun.new result }
 {
     let rest = word("init", NOTHING, tokens, begun)?;
@@ -194,11 +166,7 @@ fn reactive<'a>(
 }
 
 /// Reads what stands behind the `=` of a definition.
-fn behaviour<'a>(
-    alloc: Global,
-    tokens: &'a [Token],
-    begun: &mut List<Begun>,
-) -> Result<(Behaviour, &'a [Token]), Stop>
+fn behaviour<'a>(alloc: Global, tokens: &'a [Token], begun: &mut Notes) -> Read<'a, Behaviour>
     ensures { Answers SpellsBehaviour EndsItem behaviour_of tokens.now begun.old begun.new result }
 {
     if begins("input", tokens) {
@@ -213,11 +181,7 @@ fn behaviour<'a>(
 }
 
 /// Reads a definition.
-fn decl<'a>(
-    alloc: Global,
-    tokens: &'a [Token],
-    begun: &mut List<Begun>,
-) -> Result<(Decl, &'a [Token]), Stop>
+fn decl<'a>(alloc: Global, tokens: &'a [Token], begun: &mut Notes) -> Read<'a, Decl>
     ensures { Answers SpellsDecl Anything decl_of tokens.now begun.old begun.new result }
 {
     let note = Begun {
@@ -240,11 +204,7 @@ fn decl<'a>(
 }
 
 /// Reads the definitions.
-pub fn decls<'a>(
-    alloc: Global,
-    tokens: &'a [Token],
-    begun: &mut List<Begun>,
-) -> Result<(List<Decl>, &'a [Token]), Stop>
+pub fn decls<'a>(alloc: Global, tokens: &'a [Token], begun: &mut Notes) -> Read<'a, List<Decl>>
     ensures { Answers (Row SpellsDecl) (Ends (StartsWord (codes "let"))) (map decl_of) tokens.now begun.old begun.new result }
 {
     let mut found = List::new(alloc);

@@ -17,13 +17,16 @@ ghost use Rattle.efrp_syntax.specs.declared.expressions.Start.TheVariants as sta
 ghost use Rattle.efrp_syntax.specs.Answers.{head, opened, Answers, Passes, Anything, Tok};
 ghost use Rattle.efrp_syntax.specs.Expressions.{Stops, NameEnd, Begins, is_row};
 
-use crate::begun::{Begun, NODE, NOTHING, Stop};
+use crate::begun::{Begun, NODE, NOTHING, Notes, Read, Stop};
 use crate::readers::{
     behind_mark, behind_word, first_literal, first_name, literal, mark, name, number, split, word,
 };
 use frp_tree::limits::DEEPEST_NESTING;
-use frp_tree::{BinOp, Expr, Level, List, Side, Text, Token, Ty, UnOp, marks};
+use frp_tree::{BinOp, Expr, Level, Side, Text, Token, Ty, UnOp, marks};
 use std::alloc::Global;
+
+/// What a reader of expressions answers.
+type Found<'a> = Read<'a, Expr>;
 
 /// What an operand begins with.
 #[derive(Clone, Copy, Debug, PartialEq, Eq)]
@@ -149,7 +152,7 @@ fn open<'a>(
     note: Begun,
     nesting: u32,
     tokens: &'a [Token],
-    begun: &mut List<Begun>,
+    begun: &mut Notes,
 ) -> Result<&'a [Token], Stop>
     ensures answer { (t : Tokens) (rest : Items Tokens) → tokens.now ≡ t ∷ rest → Passes (Tok (opened note (suc nesting) t)) Anything tokens.now begun.old begun.new result }
     ensures shallow { OnOk result (nesting < DEEPEST_NESTING) }
@@ -174,8 +177,8 @@ fn phrase<'a>(
     level: Level,
     nesting: u32,
     tokens: &'a [Token],
-    begun: &mut List<Begun>,
-) -> Result<(Expr, &'a [Token]), Stop>
+    begun: &mut Notes,
+) -> Found<'a>
     ensures answer { Answers (SpellsExpr level nesting) (Stops level) tree_of tokens.now begun.old begun.new result }
     ensures shorter { IfOk result (λ found. length found.1.now ≤ length tokens.now) }
 {
@@ -196,12 +199,7 @@ fn phrase<'a>(
 
 /// An expression of the loosest level.
 #[cycle(expressions)]
-fn whole<'a>(
-    alloc: Global,
-    nesting: u32,
-    tokens: &'a [Token],
-    begun: &mut List<Begun>,
-) -> Result<(Expr, &'a [Token]), Stop>
+fn whole<'a>(alloc: Global, nesting: u32, tokens: &'a [Token], begun: &mut Notes) -> Found<'a>
     ensures answer { Answers (SpellsExpr level.Whole nesting) (Stops level.Whole) tree_of tokens.now begun.old begun.new result }
     ensures shorter { IfOk result (λ found. length found.1.now ≤ length tokens.now) }
 {
@@ -213,12 +211,7 @@ fn whole<'a>(
 
 /// `if expression then expression else expression`
 #[cycle(expressions)]
-fn choice<'a>(
-    alloc: Global,
-    nesting: u32,
-    tokens: &'a [Token],
-    begun: &mut List<Begun>,
-) -> Result<(Expr, &'a [Token]), Stop>
+fn choice<'a>(alloc: Global, nesting: u32, tokens: &'a [Token], begun: &mut Notes) -> Found<'a>
     requires { head tokens.now ≡ Some (token.Word (codes "if")) }
     ensures answer { Answers (SpellsExpr level.Whole nesting) (Stops level.Whole) tree_of tokens.now begun.old begun.new result }
     ensures shorter { IfOk result (λ found. length found.1.now ≤ length tokens.now) }
@@ -242,8 +235,8 @@ fn row<'a>(
     level: Level,
     nesting: u32,
     tokens: &'a [Token],
-    begun: &mut List<Begun>,
-) -> Result<(Expr, &'a [Token]), Stop>
+    begun: &mut Notes,
+) -> Found<'a>
     requires { is_row level ≡ true }
     ensures answer { Answers (SpellsExpr level nesting) (Stops level) tree_of tokens.now begun.old begun.new result }
     ensures shorter { IfOk result (λ found. length found.1.now ≤ length tokens.now) }
@@ -262,12 +255,7 @@ fn row<'a>(
 
 /// A comparison, which doesn't repeat, or what is compared.
 #[cycle(expressions)]
-fn comparison<'a>(
-    alloc: Global,
-    nesting: u32,
-    tokens: &'a [Token],
-    begun: &mut List<Begun>,
-) -> Result<(Expr, &'a [Token]), Stop>
+fn comparison<'a>(alloc: Global, nesting: u32, tokens: &'a [Token], begun: &mut Notes) -> Found<'a>
     ensures answer { Answers (SpellsExpr level.Comparison nesting) (Stops level.Comparison) tree_of tokens.now begun.old begun.new result }
     ensures shorter { IfOk result (λ found. length found.1.now ≤ length tokens.now) }
 {
@@ -286,12 +274,7 @@ fn comparison<'a>(
 
 /// A row of shifts, grouped to the left.
 #[cycle(expressions)]
-fn shifts<'a>(
-    alloc: Global,
-    nesting: u32,
-    tokens: &'a [Token],
-    begun: &mut List<Begun>,
-) -> Result<(Expr, &'a [Token]), Stop>
+fn shifts<'a>(alloc: Global, nesting: u32, tokens: &'a [Token], begun: &mut Notes) -> Found<'a>
     ensures answer { Answers (SpellsExpr level.Shift nesting) (Stops level.Shift) tree_of tokens.now begun.old begun.new result }
     ensures shorter { IfOk result (λ found. length found.1.now ≤ length tokens.now) }
 {
@@ -308,12 +291,7 @@ fn shifts<'a>(
 
 /// An operand.
 #[cycle(expressions)]
-fn operand<'a>(
-    alloc: Global,
-    nesting: u32,
-    tokens: &'a [Token],
-    begun: &mut List<Begun>,
-) -> Result<(Expr, &'a [Token]), Stop>
+fn operand<'a>(alloc: Global, nesting: u32, tokens: &'a [Token], begun: &mut Notes) -> Found<'a>
     ensures answer { Answers (SpellsExpr level.Operand nesting) (Stops level.Operand) tree_of tokens.now begun.old begun.new result }
     ensures shorter { IfOk result (λ found. length found.1.now ≤ length tokens.now) }
 {
@@ -328,7 +306,7 @@ fn operand<'a>(
 }
 
 /// A literal, at any nesting.
-fn constant<'a>(tokens: &'a [Token], begun: &mut List<Begun>) -> Result<(Expr, &'a [Token]), Stop>
+fn constant<'a>(tokens: &'a [Token], begun: &mut Notes) -> Found<'a>
     requires { Begins tokens.now start.Literal }
     ensures answer { (nesting : ℕ) → Answers (SpellsExpr level.Operand nesting) (Stops level.Operand) tree_of tokens.now begun.old begun.new result }
     ensures shorter { IfOk result (λ found. length found.1.now ≤ length tokens.now) }
@@ -339,12 +317,7 @@ fn constant<'a>(tokens: &'a [Token], begun: &mut List<Begun>) -> Result<(Expr, &
 
 /// A name, or a look-up in the table of that name.
 #[cycle(expressions)]
-fn named<'a>(
-    alloc: Global,
-    nesting: u32,
-    tokens: &'a [Token],
-    begun: &mut List<Begun>,
-) -> Result<(Expr, &'a [Token]), Stop>
+fn named<'a>(alloc: Global, nesting: u32, tokens: &'a [Token], begun: &mut Notes) -> Found<'a>
     requires { Begins tokens.now start.Name }
     ensures answer { Answers (SpellsExpr level.Operand nesting) (Stops level.Operand) tree_of tokens.now begun.old begun.new result }
     ensures shorter { IfOk result (λ found. length found.1.now ≤ length tokens.now) }
@@ -363,8 +336,8 @@ fn looked<'a>(
     table: Text,
     nesting: u32,
     tokens: &'a [Token],
-    begun: &mut List<Begun>,
-) -> Result<(Expr, &'a [Token]), Stop>
+    begun: &mut Notes,
+) -> Found<'a>
     requires { head tokens.now ≡ Some (token.Mark mark.OPENING_BRACKET) }
     ensures answer { Answers (NameEnd nesting table) (Stops level.Operand) tree_of tokens.now begun.old begun.new result }
     ensures shorter { IfOk result (λ found. length found.1.now ≤ length tokens.now) }
@@ -378,12 +351,7 @@ fn looked<'a>(
 
 /// An expression in brackets.
 #[cycle(expressions)]
-fn bracketed<'a>(
-    alloc: Global,
-    nesting: u32,
-    tokens: &'a [Token],
-    begun: &mut List<Begun>,
-) -> Result<(Expr, &'a [Token]), Stop>
+fn bracketed<'a>(alloc: Global, nesting: u32, tokens: &'a [Token], begun: &mut Notes) -> Found<'a>
     requires { Begins tokens.now start.Bracket }
     ensures answer { Answers (SpellsExpr level.Operand nesting) (Stops level.Operand) tree_of tokens.now begun.old begun.new result }
     ensures shorter { IfOk result (λ found. length found.1.now ≤ length tokens.now) }
@@ -401,8 +369,8 @@ fn signed<'a>(
     op: UnOp,
     nesting: u32,
     tokens: &'a [Token],
-    begun: &mut List<Begun>,
-) -> Result<(Expr, &'a [Token]), Stop>
+    begun: &mut Notes,
+) -> Found<'a>
     requires { Begins tokens.now (start.Sign op) }
     ensures answer { Answers (SpellsExpr level.Operand nesting) (Stops level.Operand) tree_of tokens.now begun.old begun.new result }
     ensures shorter { IfOk result (λ found. length found.1.now ≤ length tokens.now) }
@@ -420,8 +388,8 @@ fn converted<'a>(
     to: Ty,
     nesting: u32,
     tokens: &'a [Token],
-    begun: &mut List<Begun>,
-) -> Result<(Expr, &'a [Token]), Stop>
+    begun: &mut Notes,
+) -> Found<'a>
     requires { Begins tokens.now (start.Conversion to) }
     ensures answer { Answers (SpellsExpr level.Operand nesting) (Stops level.Operand) tree_of tokens.now begun.old begun.new result }
     ensures shorter { IfOk result (λ found. length found.1.now ≤ length tokens.now) }
@@ -436,11 +404,7 @@ fn converted<'a>(
 
 /// Reads an expression. `Unexpected` stops at the first token that no expression goes on with, and `TooDeep` at one that
 /// opens a nesting of 65. The time is linear in what is read.
-pub(crate) fn expression<'a>(
-    alloc: Global,
-    tokens: &'a [Token],
-    begun: &mut List<Begun>,
-) -> Result<(Expr, &'a [Token]), Stop>
+pub(crate) fn expression<'a>(alloc: Global, tokens: &'a [Token], begun: &mut Notes) -> Found<'a>
     ensures { Answers (SpellsExpr level.Whole 0) (Stops level.Whole) tree_of tokens.now begun.old begun.new result }
 {
     phrase(alloc, Level::Whole, 0, tokens, begun)

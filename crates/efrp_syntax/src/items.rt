@@ -7,7 +7,7 @@ ghost use Rattle.frp_tree.specs.declared.tokens.Token.TheVariants as token;
 ghost use Rattle.efrp_syntax.specs.Answers.{head, Answers, Anything};
 ghost use Rattle.efrp_syntax.specs.Items.{StartsWord, Ends, HeaderOf, LastNumber};
 
-use crate::begun::{Begun, NOTHING, Stop};
+use crate::begun::{Begun, NOTHING, Notes, Read};
 use crate::expressions::expression;
 use crate::readers::{mark, name, number, word};
 use crate::starts::begins;
@@ -20,8 +20,8 @@ fn header<'a>(
     keyword: &str,
     kind: Kind,
     tokens: &'a [Token],
-    begun: &mut List<Begun>,
-) -> Result<(Text, &'a [Token]), Stop>
+    begun: &mut Notes,
+) -> Read<'a, Text>
     ensures { Answers (HeaderOf kind keyword.now) Anything (λ x. x) tokens.now begun.old begun.new result }
 {
     let note = Begun {
@@ -35,7 +35,7 @@ fn header<'a>(
 }
 
 /// Reads a number and `;`.
-fn last_number<'a>(tokens: &'a [Token], begun: &mut List<Begun>) -> Result<(u16, &'a [Token]), Stop>
+fn last_number<'a>(tokens: &'a [Token], begun: &mut Notes) -> Read<'a, u16>
     ensures { Answers LastNumber Anything (λ n. n) tokens.now begun.old begun.new result }
 {
     let (value, rest) = number(NOTHING, tokens, begun)?;
@@ -44,11 +44,7 @@ fn last_number<'a>(tokens: &'a [Token], begun: &mut List<Begun>) -> Result<(u16,
 }
 
 /// Reads an event.
-pub fn event<'a>(
-    alloc: Global,
-    tokens: &'a [Token],
-    begun: &mut List<Begun>,
-) -> Result<(Event, &'a [Token]), Stop>
+pub fn event<'a>(alloc: Global, tokens: &'a [Token], begun: &mut Notes) -> Read<'a, Event>
     ensures { Answers SpellsEvent Anything (λ e. e) tokens.now begun.old begun.new result }
 {
     let (event, rest) = header(alloc, "event", Kind::Events, tokens, begun)?;
@@ -64,11 +60,7 @@ pub fn event<'a>(
 }
 
 /// Reads a setup.
-pub fn setup<'a>(
-    alloc: Global,
-    tokens: &'a [Token],
-    begun: &mut List<Begun>,
-) -> Result<(Setup, &'a [Token]), Stop>
+pub fn setup<'a>(alloc: Global, tokens: &'a [Token], begun: &mut Notes) -> Read<'a, Setup>
     ensures { Answers SpellsSetup Anything (λ s. s) tokens.now begun.old begun.new result }
 {
     let (register, rest) = header(alloc, "setup", Kind::Setups, tokens, begun)?;
@@ -77,11 +69,7 @@ pub fn setup<'a>(
 }
 
 /// Reads an output.
-pub fn output<'a>(
-    alloc: Global,
-    tokens: &'a [Token],
-    begun: &mut List<Begun>,
-) -> Result<(Output, &'a [Token]), Stop>
+pub fn output<'a>(alloc: Global, tokens: &'a [Token], begun: &mut Notes) -> Read<'a, Output>
     ensures { Answers SpellsOutput Anything output_of tokens.now begun.old begun.new result }
 {
     let (port, rest) = header(alloc, "output", Kind::Outputs, tokens, begun)?;
@@ -91,11 +79,7 @@ pub fn output<'a>(
 }
 
 /// Reads the events.
-pub fn events<'a>(
-    alloc: Global,
-    tokens: &'a [Token],
-    begun: &mut List<Begun>,
-) -> Result<(List<Event>, &'a [Token]), Stop>
+pub fn events<'a>(alloc: Global, tokens: &'a [Token], begun: &mut Notes) -> Read<'a, List<Event>>
     ensures { Answers (Row SpellsEvent) (Ends (StartsWord (codes "event"))) (λ es. es) tokens.now begun.old begun.new result }
 {
     let mut found = List::new(alloc);
@@ -109,11 +93,7 @@ pub fn events<'a>(
 }
 
 /// Reads the setups.
-pub fn setups<'a>(
-    alloc: Global,
-    tokens: &'a [Token],
-    begun: &mut List<Begun>,
-) -> Result<(List<Setup>, &'a [Token]), Stop>
+pub fn setups<'a>(alloc: Global, tokens: &'a [Token], begun: &mut Notes) -> Read<'a, List<Setup>>
     ensures { Answers (Row SpellsSetup) (Ends (StartsWord (codes "setup"))) (λ ss. ss) tokens.now begun.old begun.new result }
 {
     let mut found = List::new(alloc);
@@ -127,11 +107,7 @@ pub fn setups<'a>(
 }
 
 /// Reads the outputs.
-pub fn outputs<'a>(
-    alloc: Global,
-    tokens: &'a [Token],
-    begun: &mut List<Begun>,
-) -> Result<(List<Output>, &'a [Token]), Stop>
+pub fn outputs<'a>(alloc: Global, tokens: &'a [Token], begun: &mut Notes) -> Read<'a, List<Output>>
     ensures { Answers (Row SpellsOutput) (Ends (StartsWord (codes "output"))) (map output_of) tokens.now begun.old begun.new result }
 {
     let mut found = List::new(alloc);

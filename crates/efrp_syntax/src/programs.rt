@@ -1,14 +1,14 @@
 // The reader of a whole program.
 ghost use Rattle.efrp_syntax.specs.Programs.{ReadWhole};
 
-use crate::begun::{Begun, Stop};
+use crate::begun::{Notes, Stop};
 use crate::definitions::decls;
 use crate::items::{events, outputs, setups};
-use frp_tree::{List, Program, Token};
+use frp_tree::{Program, Token};
 use std::alloc::Global;
 
 /// Reads a program, to the last token.
-pub fn program(alloc: Global, tokens: &[Token], begun: &mut List<Begun>) -> Result<Program, Stop>
+pub fn program(alloc: Global, tokens: &[Token], begun: &mut Notes) -> Result<Program, Stop>
     ensures { ReadWhole tokens.now begun.old begun.new result }
 {
     let (events, rest) = events(alloc, tokens, begun)?;

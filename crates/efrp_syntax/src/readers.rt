@@ -6,9 +6,9 @@ ghost use Rattle.frp_tree.specs.declared.syntax.Lit.{Lit as Lits};
 ghost use Rattle.frp_tree.specs.declared.tokens.Token.TheVariants as token;
 ghost use Rattle.efrp_syntax.specs.Answers.{head, noted, Answers, Passes, Anything, One, Tok};
 
-use crate::begun::{Begun, Stop};
+use crate::begun::{Begun, Notes, Read, Stop};
 use crate::keywords::is_keyword;
-use frp_tree::{List, Lit, Text, Token};
+use frp_tree::{Lit, Text, Token};
 use std::alloc::Global;
 
 /// The next token and those behind it. Takes no memory.
@@ -96,7 +96,7 @@ pub fn word<'a>(
     word: &str,
     note: Begun,
     tokens: &'a [Token],
-    begun: &mut List<Begun>,
+    begun: &mut Notes,
 ) -> Result<&'a [Token], Stop>
     ensures { Passes (Tok (noted note (token.Word word.now))) Anything tokens.now begun.old begun.new result }
 {
@@ -114,7 +114,7 @@ pub fn mark<'a>(
     number: u8,
     note: Begun,
     tokens: &'a [Token],
-    begun: &mut List<Begun>,
+    begun: &mut Notes,
 ) -> Result<&'a [Token], Stop>
     ensures { Passes (Tok (noted note (token.Mark number))) Anything tokens.now begun.old begun.new result }
 {
@@ -128,11 +128,7 @@ pub fn mark<'a>(
 }
 
 /// Reads a number with no suffix, which begins what `note` says.
-pub fn number<'a>(
-    note: Begun,
-    tokens: &'a [Token],
-    begun: &mut List<Begun>,
-) -> Result<(u16, &'a [Token]), Stop>
+pub fn number<'a>(note: Begun, tokens: &'a [Token], begun: &mut Notes) -> Read<'a, u16>
     ensures { Answers (One (λ n. noted note (token.Num n)) (λ n. Unit {0})) Anything (λ n. n) tokens.now begun.old begun.new result }
 {
     match first_number(tokens) {
@@ -149,8 +145,8 @@ pub fn name<'a>(
     alloc: Global,
     note: Begun,
     tokens: &'a [Token],
-    begun: &mut List<Begun>,
-) -> Result<(Text, &'a [Token]), Stop>
+    begun: &mut Notes,
+) -> Read<'a, Text>
     ensures { Answers (One (λ x. noted note (token.Word x)) (λ x. is_keyword x ≡ false)) Anything (λ x. x) tokens.now begun.old begun.new result }
 {
     match first_name(tokens) {
@@ -163,11 +159,7 @@ pub fn name<'a>(
 }
 
 /// Reads a literal, which begins what `note` says.
-pub fn literal<'a>(
-    note: Begun,
-    tokens: &'a [Token],
-    begun: &mut List<Begun>,
-) -> Result<(Lit, &'a [Token]), Stop>
+pub fn literal<'a>(note: Begun, tokens: &'a [Token], begun: &mut Notes) -> Read<'a, Lit>
     ensures { Answers (One (λ l. noted note (literal_token l)) (λ l. Unit {0})) Anything (λ l. l) tokens.now begun.old begun.new result }
 {
     match first_literal(tokens) {
