@@ -9,7 +9,7 @@ use Rattle.frp_tree.specs.declared.tokens.Token.TheVariants.{Mark}
 use Rattle.frp_tree.specs.Levels.{tighter, level_of, mark_of, repeats}
 use Rattle.frp_tree.specs.Tree.{Tree, Binary}
 use Rattle.frp_tree.specs.Cells.{Cell, node, tokens_of}
-use Rattle.frp_tree.specs.Grammar.{SpellsExpr, literal, named, looked, brackets, signed, converted, chosen, shifted, joined, compared, alone}
+use Rattle.frp_tree.specs.Grammar.{SpellsExpr, joined, compared, alone}
 use Rattle.efrp_syntax.specs.declared.begun.Begun.{Begun}
 use Rattle.efrp_syntax.specs.declared.begun.Stop.{Stop}
 use Rattle.efrp_syntax.specs.declared.begun.TheConstants.{NODE}
@@ -25,14 +25,6 @@ data AtMostOne (d : ℕ) (a : Tree) : Tree → List Cell → Type 0 where
   steps : {e : Tree} {w : List Cell} → RowStep level.Comparison d a e w → AtMostOne d a e w
 
 chain : {l : Level} {d : ℕ} {e : Tree} {w : List Cell} → SpellsExpr l d e w → l ≡ level.Comparison → Seq (SpellsExpr level.BitOr d) (AtMostOne d) e w
-chain literal h = cc
-chain (named k) h = cc
-chain (looked ts k s) h = cc
-chain (brackets ts s) h = cc
-chain (signed ts s) h = cc
-chain (converted ts k s) h = cc
-chain (chosen ts us vs s t u) h = cc
-chain (shifted ts s) h = cc
 chain (joined ts us k r s t) h = absurd (false_true (sym (ap repeats h) ∙ r))
   where
     false_true : false ≡ true → ⊥
@@ -46,6 +38,7 @@ chain {l = l} {d = d} (compared {op = op} {a = a} {b = b} ts us k r s t) h = rec
   whole = refl;
 }
 chain {l = l} {d = d} {e = e} {w = w} (alone k s) h = record { first = e; front = w; back = []; spelled = subst (λ m. SpellsExpr (tighter m) d e w) h s; then_spelled = stays; whole = sym (append-nil w) }
+chain _ h = cc
 
 unchain : {d : ℕ} {a e : Tree} {ts v : List Cell} → SpellsExpr level.BitOr d a ts → AtMostOne d a e v → SpellsExpr level.Comparison d e (ts ++ v)
 unchain {d = d} {e = e} {ts = ts} s stays = subst (SpellsExpr level.Comparison d e) (sym (append-nil ts)) (alone refl s)

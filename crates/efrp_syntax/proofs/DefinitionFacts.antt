@@ -24,7 +24,7 @@ use Rattle.efrp_syntax.specs.declared.begun.Stop.{Stop}
 use Rattle.efrp_syntax.specs.Answers.{head, Answers, Anything, Found, Fails, One, Tok, Done, Seq, Example, Fits, Like}
 use Rattle.efrp_syntax.specs.Expressions.{Stops}
 use Rattle.efrp_syntax.specs.Items.{StartsWord, StartsMark, StartsName, Ends, EndsItem, NameOf, LiteralOf, TypeOf, Later, EntryOf, EntriesBehind, PlainForm, InputForm, FirstEntry, TableForm, ReactiveForm}
-use Rattle.efrp_syntax.proofs.PhraseLaws.{found_like, found_next, found_done, fails_like, fails_first, fails_next}
+use Rattle.efrp_syntax.proofs.PhraseLaws.{found_like, found_next, found_done, fails_like, fails_first, fails_next, seq}
 use Rattle.efrp_syntax.proofs.EndFacts.{stops_word}
 use Rattle.efrp_syntax.proofs.ItemKinds.{some_one, some_tok, some_done, some_seq, some_row, fits_any, opened, opening, closing, AllBegin, tokens_then}
 use Rattle.efrp_syntax.proofs.ItemFacts.{some_name, some_expr, whole_stops, join}
@@ -222,14 +222,8 @@ clause_like {ts = ts} = record { into = into; from = from; stops = λ c t. t }
         })
 
     from : (e : ClauseTree) (w : List Cell) (c : List Token) → SpellsClause e w → Anything c → head (tokens_of w ++ c) ≡ head ts → ClauseParts e w
-    from e w c s t h = subst (ClauseParts e) (sym s.whole) (opening e.event s.event (opening tt tt (record {
-      first = e.expr;
-      front = s.value;
-      back = later_cells e.later ++ sign mark.SEMICOLON ∷ [];
-      spelled = s.spelled;
-      then_spelled = record { first = e.later; front = later_cells e.later; back = sign mark.SEMICOLON ∷ []; spelled = refl; then_spelled = opening tt tt (closing e); whole = refl };
-      whole = refl;
-    })))
+    from e w c s t h = subst (ClauseParts e) (sym s.whole) (opening e.event s.event (opening tt tt
+        (seq e.expr s.value (later_cells e.later ++ sign mark.SEMICOLON ∷ []) s.spelled (seq e.later (later_cells e.later) (sign mark.SEMICOLON ∷ []) refl (opening tt tt (closing e))))))
 
 pub clauses_begin : AllBegin SpellsClause StartsName
 clauses_begin e w c s = (e.event, s.event, ap (λ cs. head (tokens_of cs ++ c)) s.whole)
@@ -262,14 +256,10 @@ entries_like_next {ts = ts} front number n here = record { into = into; from = f
 
     go : (e more : List Lit) (w : List Cell) (c : List Token) → e ≡ front ++ more → w ≡ more_entries (length front) more → Ends (StartsMark mark.COMMA) c → head (tokens_of w ++ c) ≡ head ts → Seq (EntryOf number) (λ l. EntriesBehind (front ++ l ∷ [])) e w
     go e [] w c p q t h = absurd (t (sym (ap (λ cs. head (tokens_of cs ++ c)) q) ∙ h ∙ here))
-    go e (l ∷ more) w c p q t h = subst (Seq (EntryOf number) (λ x. EntriesBehind (front ++ x ∷ [])) e) (sym q) (record {
-      first = l;
-      front = sign mark.COMMA ∷ entry_cell (suc (length front)) (literal_token l) ∷ [];
-      back = more_entries (suc (length front)) more;
-      spelled = subst (λ k. EntryOf k l (sign mark.COMMA ∷ entry_cell (suc (length front)) (literal_token l) ∷ [])) (sym n) (opening tt tt (record { is = tt; whole = refl }));
-      then_spelled = record { more = more; whole = p ∙ sym (append_assoc front (l ∷ []) more); cells = ap (λ k. more_entries k more) (sym (length_more front l)) };
-      whole = refl;
-    })
+    go e (l ∷ more) w c p q t h = subst (Seq (EntryOf number) (λ x. EntriesBehind (front ++ x ∷ [])) e) (sym q)
+        (seq l (sign mark.COMMA ∷ entry_cell (suc (length front)) (literal_token l) ∷ []) (more_entries (suc (length front)) more)
+        (subst (λ k. EntryOf k l (sign mark.COMMA ∷ entry_cell (suc (length front)) (literal_token l) ∷ [])) (sym n) (opening tt tt (record { is = tt; whole = refl })))
+        (record { more = more; whole = p ∙ sym (append_assoc front (l ∷ []) more); cells = ap (λ k. more_entries k more) (sym (length_more front l)) }))
 
     from : (e : List Lit) (w : List Cell) (c : List Token) → EntriesBehind front e w → Ends (StartsMark mark.COMMA) c → head (tokens_of w ++ c) ≡ head ts → Seq (EntryOf number) (λ l. EntriesBehind (front ++ l ∷ [])) e w
     from e w c s t h = go e s.more w c s.whole s.cells t h
@@ -446,14 +436,7 @@ table_like {ts = ts} here = record { into = into; from = from; stops = λ c t. t
     from : (e : BehaviourTree) (w : List Cell) (c : List Token) → SpellsBehaviour e w → EndsItem c → head (tokens_of w ++ c) ≡ head ts → TableForm e w
     from e w c (plainly x) t h = absurd (not_expr (head (tokens_of w ++ c)) (codes "table") (expr_begins x c) (h ∙ here) refl)
     from e w c (input {port = port} k) t h = absurd (apart (codes "input") (codes "table") refl refl (h ∙ here))
-    from e w c (table {l = l} {ls = ls}) t h = opening tt tt (opening tt tt (opening l tt (record {
-      first = l ∷ ls;
-      front = more_entries 1 ls;
-      back = sign mark.CLOSING_BRACE ∷ [];
-      spelled = record { more = ls; whole = refl; cells = refl };
-      then_spelled = opening tt tt (closing (Table (l ∷ ls)));
-      whole = refl;
-    })))
+    from e w c (table {l = l} {ls = ls}) t h = opening tt tt (opening tt tt (opening l tt (seq (l ∷ ls) (more_entries 1 ls) (sign mark.CLOSING_BRACE ∷ []) (record { more = ls; whole = refl; cells = refl }) (opening tt tt (closing (Table (l ∷ ls)))))))
     from e w c (reactive ts r) t h = absurd (apart (codes "init") (codes "table") refl refl (h ∙ here))
 
 pub reactive_like : {ts : List Token} → head ts ≡ Some (Word (codes "init")) → Like ReactiveForm Anything SpellsBehaviour EndsItem ts
@@ -473,14 +456,7 @@ reactive_like {ts = ts} here = record { into = into; from = from; stops = λ c t
     from e w c (plainly x) t h = absurd (not_expr (head (tokens_of w ++ c)) (codes "init") (expr_begins x c) (h ∙ here) refl)
     from e w c (input {port = port} k) t h = absurd (apart (codes "input") (codes "init") refl refl (h ∙ here))
     from e w c table t h = absurd (apart (codes "table") (codes "init") refl refl (h ∙ here))
-    from e w c (reactive {l = l} {clauses = clauses} ts r) t h = opening tt tt (opening l tt (opening tt tt (opening tt tt (record {
-      first = clauses;
-      front = ts;
-      back = sign mark.CLOSING_BRACE ∷ [];
-      spelled = r;
-      then_spelled = opening tt tt (closing (Reactive l clauses));
-      whole = refl;
-    }))))
+    from e w c (reactive {l = l} {clauses = clauses} ts r) t h = opening tt tt (opening l tt (opening tt tt (opening tt tt (seq clauses ts (sign mark.CLOSING_BRACE ∷ []) r (opening tt tt (closing (Reactive l clauses)))))))
 
 pub plain_like : {ts : List Token} → (head ts ≡ Some (Word (codes "input")) → ⊥) → (head ts ≡ Some (Word (codes "table")) → ⊥) → (head ts ≡ Some (Word (codes "init")) → ⊥) → Like PlainForm (Stops level.Whole) SpellsBehaviour EndsItem ts
 plain_like {ts = ts} p q r = record { into = into; from = from; stops = whole_stops }
@@ -569,14 +545,7 @@ decl_like {ts = ts} = record { into = into; from = from; stops = λ c t. t }
         })
 
     from : (e : DeclTree) (w : List Cell) (c : List Token) → SpellsDecl e w → Anything c → head (tokens_of w ++ c) ≡ head ts → DeclParts e w
-    from e w c s t h = subst (DeclParts e) (sym s.whole) (opening tt tt (opening e.name s.name (opening tt tt (opening e.ty tt (opening tt tt (record {
-      first = e.behaviour;
-      front = s.value;
-      back = sign mark.SEMICOLON ∷ [];
-      spelled = s.spelled;
-      then_spelled = opening tt tt (closing e);
-      whole = refl;
-    }))))))
+    from e w c s t h = subst (DeclParts e) (sym s.whole) (opening tt tt (opening e.name s.name (opening tt tt (opening e.ty tt (opening tt tt (seq e.behaviour s.value (sign mark.SEMICOLON ∷ []) s.spelled (opening tt tt (closing e))))))))
 
 pub decls_begin : AllBegin SpellsDecl (StartsWord (codes "let"))
 decls_begin e w c s = ap (λ cs. head (tokens_of cs ++ c)) s.whole

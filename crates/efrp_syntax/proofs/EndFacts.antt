@@ -36,21 +36,7 @@ operator_at k = get_or operators k None
 
 at_operator : (op : BinOp) → operator_at (mark_of op) ≡ Some (inl op)
 at_operator binary.Or = refl
-at_operator binary.And = refl
-at_operator binary.Eq = refl
-at_operator binary.Ne = refl
-at_operator binary.Lt = refl
-at_operator binary.Le = refl
-at_operator binary.Gt = refl
-at_operator binary.Ge = refl
-at_operator binary.BitOr = refl
-at_operator binary.BitXor = refl
-at_operator binary.BitAnd = refl
-at_operator binary.Add = refl
-at_operator binary.Sub = refl
-at_operator binary.Mul = refl
-at_operator binary.Div = refl
-at_operator binary.Rem = refl
+at_operator _ = refl
 
 at_shift : (side : Side) → operator_at (mark_of_shift side) ≡ Some (inr side)
 at_shift Left = refl
@@ -114,34 +100,11 @@ stops_end l = record { no_index = none_no_mark; looser = λ op e. absurd (none_n
 
 tighter_less : (l : Level) → looseness (tighter l) ≤ looseness l
 tighter_less level.Whole = omega arith
-tighter_less level.Or = omega arith
-tighter_less level.And = omega arith
-tighter_less level.Comparison = omega arith
-tighter_less level.BitOr = omega arith
-tighter_less level.BitXor = omega arith
-tighter_less level.BitAnd = omega arith
-tighter_less level.Shift = omega arith
-tighter_less level.Sum = omega arith
-tighter_less level.Term = omega arith
-tighter_less level.Operand = omega arith
+tighter_less _ = omega arith
 
 operator_less : (op : BinOp) → looseness (tighter (level_of op)) < looseness (level_of op)
 operator_less binary.Or = omega arith
-operator_less binary.And = omega arith
-operator_less binary.Eq = omega arith
-operator_less binary.Ne = omega arith
-operator_less binary.Lt = omega arith
-operator_less binary.Le = omega arith
-operator_less binary.Gt = omega arith
-operator_less binary.Ge = omega arith
-operator_less binary.BitOr = omega arith
-operator_less binary.BitXor = omega arith
-operator_less binary.BitAnd = omega arith
-operator_less binary.Add = omega arith
-operator_less binary.Sub = omega arith
-operator_less binary.Mul = omega arith
-operator_less binary.Div = omega arith
-operator_less binary.Rem = omega arith
+operator_less _ = omega arith
 
 pub stops_tighter : (l : Level) (c : List Token) → Stops l c → Stops (tighter l) c
 stops_tighter l c s = record {
@@ -179,26 +142,8 @@ shift_goes_on side c rest more e s k =
 
 pub row_repeats : (l : Level) → is_row l ≡ true → repeats l ≡ true
 row_repeats level.Comparison h = h
-row_repeats level.Whole h = refl
-row_repeats level.Or h = refl
-row_repeats level.And h = refl
-row_repeats level.BitOr h = refl
-row_repeats level.BitXor h = refl
-row_repeats level.BitAnd h = refl
-row_repeats level.Shift h = refl
-row_repeats level.Sum h = refl
-row_repeats level.Term h = refl
-row_repeats level.Operand h = refl
+row_repeats _ h = refl
 
 pub row_no_operand : (l : Level) → is_row l ≡ true → is_operand l ≡ false
 row_no_operand level.Operand h = sym h
-row_no_operand level.Comparison h = refl
-row_no_operand level.Whole h = refl
-row_no_operand level.Or h = refl
-row_no_operand level.And h = refl
-row_no_operand level.BitOr h = refl
-row_no_operand level.BitXor h = refl
-row_no_operand level.BitAnd h = refl
-row_no_operand level.Shift h = refl
-row_no_operand level.Sum h = refl
-row_no_operand level.Term h = refl
+row_no_operand _ h = refl

@@ -18,10 +18,10 @@ use Rattle.efrp_syntax.specs.declared.begun.Begun.{Begun}
 use Rattle.efrp_syntax.specs.declared.begun.Stop.{Stop}
 use Rattle.efrp_syntax.specs.Answers.{Found, Fails, Anything, One, Tok, Done, Seq, Example, Fits}
 use Rattle.efrp_syntax.specs.Expressions.{Stops, NameEnd, alone as no_index}
-use Rattle.efrp_syntax.proofs.PhraseLaws.{found_next, fails_first, fails_next, found_done}
+use Rattle.efrp_syntax.proofs.PhraseLaws.{found_next, fails_first, fails_next, found_done, seq}
 use Rattle.efrp_syntax.proofs.EndFacts.{stops_mark, stops_word}
 use Rattle.efrp_syntax.proofs.RowFacts.{example}
-use Rattle.efrp_syntax.proofs.OperandFacts.{Closed, Else, Then, seq, tok, finished}
+use Rattle.efrp_syntax.proofs.OperandFacts.{Closed, Else, Then, tok, finished}
 
 -- What fits behind what.
 

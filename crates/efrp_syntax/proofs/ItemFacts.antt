@@ -15,6 +15,7 @@ use Rattle.frp_tree.specs.Grammar.{word, sign, SpellsExpr, named, alone, SpellsE
 use Rattle.efrp_syntax.specs.Answers.{head, Anything, Tok, Done, Seq, Example, Fits, Like}
 use Rattle.efrp_syntax.specs.Expressions.{Stops}
 use Rattle.efrp_syntax.specs.Items.{StartsWord, NameOf, NumberOf, HeaderOf, LastNumber, EndsItem}
+use Rattle.efrp_syntax.proofs.PhraseLaws.{seq}
 use Rattle.efrp_syntax.proofs.EndFacts.{stops_mark}
 use Rattle.efrp_syntax.proofs.ItemKinds.{some_one, some_tok, some_done, some_seq, fits_any, opened, opening, closing, AllBegin}
 
@@ -117,14 +118,10 @@ event_like {ts = ts} = record { into = into; from = from; stops = λ c t. t }
         })
 
     from : (e : Event) (w : List Cell) (c : List Token) → SpellsEvent e w → Anything c → head (tokens_of w ++ c) ≡ head ts → EventParts e w
-    from e w c s t h = subst (EventParts e) (sym s.whole) (record {
-      first = e.name;
-      front = starting Events (Word (codes "event")) ∷ word e.name ∷ sign mark.EQUALS ∷ [];
-      back = word e.source ∷ word (codes "priority") ∷ plain (Num e.priority) ∷ sign mark.SEMICOLON ∷ [];
-      spelled = header_of Events (codes "event") e.name s.name;
-      then_spelled = opening e.source s.source (opening tt tt (record { first = e.priority; front = plain (Num e.priority) ∷ sign mark.SEMICOLON ∷ []; back = []; spelled = last_number_of e.priority; then_spelled = closing e; whole = refl }));
-      whole = refl;
-    })
+    from e w c s t h = subst (EventParts e) (sym s.whole)
+        (seq e.name (starting Events (Word (codes "event")) ∷ word e.name ∷ sign mark.EQUALS ∷ []) (word e.source ∷ word (codes "priority") ∷ plain (Num e.priority) ∷ sign mark.SEMICOLON ∷ [])
+        (header_of Events (codes "event") e.name s.name)
+        (opening e.source s.source (opening tt tt (seq e.priority (plain (Num e.priority) ∷ sign mark.SEMICOLON ∷ []) [] (last_number_of e.priority) (closing e)))))
 
 -- Setups.
 
@@ -149,14 +146,10 @@ setup_like {ts = ts} = record { into = into; from = from; stops = λ c t. t }
         subst (λ x. SpellsSetup x w) (sym d.value) (record { register = h.name; whole = join s.whole h.whole (join b.whole n d.whole) })
 
     from : (e : Setup) (w : List Cell) (c : List Token) → SpellsSetup e w → Anything c → head (tokens_of w ++ c) ≡ head ts → SetupParts e w
-    from e w c s t h = subst (SetupParts e) (sym s.whole) (record {
-      first = e.register;
-      front = starting Setups (Word (codes "setup")) ∷ word e.register ∷ sign mark.EQUALS ∷ [];
-      back = plain (Num e.byte) ∷ sign mark.SEMICOLON ∷ [];
-      spelled = header_of Setups (codes "setup") e.register s.register;
-      then_spelled = record { first = e.byte; front = plain (Num e.byte) ∷ sign mark.SEMICOLON ∷ []; back = []; spelled = last_number_of e.byte; then_spelled = closing e; whole = refl };
-      whole = refl;
-    })
+    from e w c s t h = subst (SetupParts e) (sym s.whole)
+        (seq e.register (starting Setups (Word (codes "setup")) ∷ word e.register ∷ sign mark.EQUALS ∷ []) (plain (Num e.byte) ∷ sign mark.SEMICOLON ∷ [])
+        (header_of Setups (codes "setup") e.register s.register)
+        (seq e.byte (plain (Num e.byte) ∷ sign mark.SEMICOLON ∷ []) [] (last_number_of e.byte) (closing e)))
 
 -- Outputs.
 
@@ -194,14 +187,10 @@ output_like {ts = ts} = record { into = into; from = from; stops = λ c t. t }
         subst (λ x. SpellsOutput x w) (sym d.value) (record { value = b.front; port = h.name; spelled = b.spelled; whole = join s.whole h.whole (join b.whole refl (o.whole ∙ ap (λ cs. sign mark.SEMICOLON ∷ cs) d.whole)) })
 
     from : (e : OutputTree) (w : List Cell) (c : List Token) → SpellsOutput e w → Anything c → head (tokens_of w ++ c) ≡ head ts → OutputParts e w
-    from e w c s t h = subst (OutputParts e) (sym s.whole) (record {
-      first = e.port;
-      front = starting Outputs (Word (codes "output")) ∷ word e.port ∷ sign mark.EQUALS ∷ [];
-      back = s.value ++ sign mark.SEMICOLON ∷ [];
-      spelled = header_of Outputs (codes "output") e.port s.port;
-      then_spelled = record { first = e.expr; front = s.value; back = sign mark.SEMICOLON ∷ []; spelled = s.spelled; then_spelled = opening tt tt (closing e); whole = refl };
-      whole = refl;
-    })
+    from e w c s t h = subst (OutputParts e) (sym s.whole)
+        (seq e.port (starting Outputs (Word (codes "output")) ∷ word e.port ∷ sign mark.EQUALS ∷ []) (s.value ++ sign mark.SEMICOLON ∷ [])
+        (header_of Outputs (codes "output") e.port s.port)
+        (seq e.expr s.value (sign mark.SEMICOLON ∷ []) s.spelled (opening tt tt (closing e))))
 
 -- What they begin with.
 

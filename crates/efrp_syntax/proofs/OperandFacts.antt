@@ -21,11 +21,12 @@ use Rattle.frp_tree.specs.Levels.{tighter, level_of, mark_of, mark_of_shift, mar
 use Rattle.frp_tree.specs.Tree.{Tree, Const, Name, Unary, If, Convert, Look}
 use Rattle.frp_tree.specs.Cells.{Cell, plain, node, opening_node, opening, tokens_of, literal_token}
 use Rattle.frp_tree.specs.Grammar.{SpellsExpr, literal, named, looked, brackets, signed, converted, chosen, shifted, joined, compared, alone, word, sign}
+use Rattle.frp_tree.proofs.OneExpressionLaws.{same_type as same_name}
 use Rattle.efrp_syntax.specs.declared.begun.Begun.{Begun}
 use Rattle.efrp_syntax.specs.declared.begun.Stop.TheVariants.{Unexpected}
 use Rattle.efrp_syntax.specs.Answers.{head, Fails, odd, One, Tok, Done, Seq, Like}
 use Rattle.efrp_syntax.specs.Expressions.{Stops, NameEnd, alone as no_index, index, IsNoOperand}
-use Rattle.efrp_syntax.proofs.PhraseLaws.{tokens_append}
+use Rattle.efrp_syntax.proofs.PhraseLaws.{tokens_append, seq, stuck_here}
 use Rattle.efrp_syntax.proofs.EndFacts.{stops_tighter}
 use Rattle.efrp_syntax.proofs.RowFacts.{example}
 
@@ -114,39 +115,14 @@ same_sign Not Not e = refl
 same_sign Com Not e = absurd (numbers_differ mark.BIT_NOT mark.NOT refl e)
 same_sign Not Com e = absurd (numbers_differ mark.NOT mark.BIT_NOT refl e)
 
-lengths_differ : (x y : List ℕ) → (length x == length y) ≡ false → Some (Word x) ≡ Some (Word y) → ⊥
-lengths_differ x y n e = false≢true (sym n ∙ eq-eqb (length x) (length y) (ap length (word_of e)))
-
 same_type : (a b : Ty) → Some (Word (type_name a)) ≡ Some (Word (type_name b)) → a ≡ b
-same_type ty.Bool ty.Bool e = refl
-same_type ty.U8 ty.U8 e = refl
-same_type ty.U16 ty.U16 e = refl
-same_type ty.Bool ty.U8 e = absurd (lengths_differ (codes "bool") (codes "u8") refl e)
-same_type ty.Bool ty.U16 e = absurd (lengths_differ (codes "bool") (codes "u16") refl e)
-same_type ty.U8 ty.Bool e = absurd (lengths_differ (codes "u8") (codes "bool") refl e)
-same_type ty.U8 ty.U16 e = absurd (lengths_differ (codes "u8") (codes "u16") refl e)
-same_type ty.U16 ty.Bool e = absurd (lengths_differ (codes "u16") (codes "bool") refl e)
-same_type ty.U16 ty.U8 e = absurd (lengths_differ (codes "u16") (codes "u8") refl e)
+same_type a b e = same_name a b (word_of e)
 
 no_operand_operator : (op : BinOp) → level_of op ≡ level.Operand → ⊥
 no_operand_operator binary.Or h = cc
-no_operand_operator binary.And h = cc
-no_operand_operator binary.Eq h = cc
-no_operand_operator binary.Ne h = cc
-no_operand_operator binary.Lt h = cc
-no_operand_operator binary.Le h = cc
-no_operand_operator binary.Gt h = cc
-no_operand_operator binary.Ge h = cc
-no_operand_operator binary.BitOr h = cc
-no_operand_operator binary.BitXor h = cc
-no_operand_operator binary.BitAnd h = cc
-no_operand_operator binary.Add h = cc
-no_operand_operator binary.Sub h = cc
-no_operand_operator binary.Mul h = cc
-no_operand_operator binary.Div h = cc
-no_operand_operator binary.Rem h = cc
+no_operand_operator _ h = cc
 
-pub head_split : (ts : List Token) (t : Token) → head ts ≡ Some t → (rest : List Token) × (ts ≡ t ∷ rest)
+head_split : (ts : List Token) (t : Token) → head ts ≡ Some t → (rest : List Token) × (ts ≡ t ∷ rest)
 head_split [] t h = absurd (none_some h)
   where
     none_some : {u : Token} → None ≡ Some u → ⊥
@@ -155,6 +131,10 @@ head_split (u ∷ ts) t h = (ts, ap (λ v. v ∷ ts) (same h))
   where
     same : {a b : Token} → Some a ≡ Some b → a ≡ b
     same e = cc
+
+-- What holds of any first token holds of this one.
+pub at_head : {P : Token → Type 0} (ts : List Token) (t : Token) → head ts ≡ Some t → ((u : Token) (rest : List Token) → ts ≡ u ∷ rest → P u) → P t
+at_head ts t h f = let s = head_split ts t h in f t s.0 s.1
 
 -- The kinds.
 
@@ -196,10 +176,7 @@ data OperandCase (d : ℕ) (e : Tree) (w : List Cell) : Type 0 where
   is_signed : (op : UnOp) → Signed op d e w → OperandCase d e w
   is_converted : (to : Ty) → is_number_type to ≡ true → Converted to d e w → OperandCase d e w
 
--- How phrases of two parts are put together.
-
-pub seq : {A B : Type 0} {G : A → List Cell → Type 0} {K : A → B → List Cell → Type 0} {e : B} (a : A) (us vs : List Cell) → G a us → K a e vs → Seq G K e (us ++ vs)
-seq a us vs s t = record { first = a; front = us; back = vs; spelled = s; then_spelled = t; whole = refl }
+-- How phrases are put together.
 
 pub tok : (cell : Cell) → Tok cell tt (cell ∷ [])
 tok cell = record { is = tt; whole = refl }
@@ -320,19 +297,7 @@ converted_like to d ts n h = record { into = converted_into n; from = λ e w c s
 
 -- Where nothing begins an operand.
 pub no_operand : (d : ℕ) (ts : List Token) (before : List Begun) → IsNoOperand ts → Fails (SpellsExpr level.Operand d) (Stops level.Operand) ts before before (Unexpected (length ts))
-no_operand d ts before n = odd (record {
-  used = [];
-  tail = ts;
-  split = refl;
-  left = refl;
-  shallow = tt;
-  noted = sym (append-nil before);
-  example = Const (lit.Plain 0);
-  ahead = node (Num 0) ∷ [];
-  viable = example level.Operand d;
-  next = tt;
-  dead = λ e w c more s t h p. go w c (operand_case s) (ap head p ∙ h);
-})
+no_operand d ts before n = odd (stuck_here before (Const (lit.Plain 0)) (node (Num 0) ∷ []) (example level.Operand d) tt (λ e w c more s t h p. go w c (operand_case s) (ap head p ∙ h)))
   where
     go : {e : Tree} (w : List Cell) (c : List Token) → OperandCase d e w → head (tokens_of w ++ c) ≡ head ts → ⊥
     go w c (is_literal s) k = n.no_literal s.first (sym k ∙ first_of s c)
@@ -385,21 +350,7 @@ data WholeCase (d : ℕ) (e : Tree) (w : List Cell) : Type 0 where
 
 no_whole_operator : (op : BinOp) → level_of op ≡ level.Whole → ⊥
 no_whole_operator binary.Or h = cc
-no_whole_operator binary.And h = cc
-no_whole_operator binary.Eq h = cc
-no_whole_operator binary.Ne h = cc
-no_whole_operator binary.Lt h = cc
-no_whole_operator binary.Le h = cc
-no_whole_operator binary.Gt h = cc
-no_whole_operator binary.Ge h = cc
-no_whole_operator binary.BitOr h = cc
-no_whole_operator binary.BitXor h = cc
-no_whole_operator binary.BitAnd h = cc
-no_whole_operator binary.Add h = cc
-no_whole_operator binary.Sub h = cc
-no_whole_operator binary.Mul h = cc
-no_whole_operator binary.Div h = cc
-no_whole_operator binary.Rem h = cc
+no_whole_operator _ h = cc
 
 whole_case : {d : ℕ} {e : Tree} {w : List Cell} → SpellsExpr level.Whole d e w → WholeCase d e w
 whole_case {d = d} (chosen {c = c} {a = a} {b = b} ts us vs s t u) =
@@ -414,16 +365,7 @@ whole_case (alone k s) = is_looser s
 
 tighter_no_whole : (l : Level) → tighter l ≡ level.Whole → ⊥
 tighter_no_whole level.Whole h = cc
-tighter_no_whole level.Or h = cc
-tighter_no_whole level.And h = cc
-tighter_no_whole level.Comparison h = cc
-tighter_no_whole level.BitOr h = cc
-tighter_no_whole level.BitXor h = cc
-tighter_no_whole level.BitAnd h = cc
-tighter_no_whole level.Shift h = cc
-tighter_no_whole level.Sum h = cc
-tighter_no_whole level.Term h = cc
-tighter_no_whole level.Operand h = cc
+tighter_no_whole _ h = cc
 
 -- No expression but a choice begins with `if`.
 begins_no_if : {l : Level} {d : ℕ} {e : Tree} {w : List Cell} (c : List Token) → SpellsExpr l d e w → (l ≡ level.Whole → ⊥) → head (tokens_of w ++ c) ≡ Some (Word (codes "if")) → ⊥

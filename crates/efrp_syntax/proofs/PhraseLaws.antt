@@ -92,22 +92,25 @@ found_next {A = A} {B = B} {G = G} {S = S} {T = T} {K = K} {ts = ts} {rest = res
         let two = g.only other s.back c more (subst (λ x. K x other s.back) one.0 s.then_spelled) t h behind in
         (two.0, s.whole ∙ ap (λ cs. cs ++ s.back) one.1 ∙ ap (λ cs. f.used ++ cs) two.1)
 
+-- A phrase of two parts.
+pub seq : {A B : Type 0} {G : A → List Cell → Type 0} {K : A → B → List Cell → Type 0} {e : B} (a : A) (us vs : List Cell) → G a us → K a e vs → Seq G K e (us ++ vs)
+seq a us vs s t = record { first = a; front = us; back = vs; spelled = s; then_spelled = t; whole = refl }
+
+-- A stop of one phrase, told of another: with an example of the other, and why none of it goes on.
+stuck_as : {why : Why} {A B : Type 0} {G : A → List Cell → Type 0} {H : B → List Cell → Type 0} {S T : List Token → Type 0} {ts : List Token} {n : ℕ} {before after : List Begun}
+    → (f : Stuck why G S ts n before after) (x : B) (cells : List Cell) → H x (f.used ++ cells) → Next why f.tail cells
+    → ((e : B) (w : List Cell) (c more : List Token) → H e w → T c → head more ≡ head f.tail → tokens_of w ++ c ≡ tokens_of f.used ++ more → Bad why (length f.used) w)
+    → Stuck why H T ts n before after
+stuck_as f x cells viable next dead = record { used = f.used; tail = f.tail; split = f.split; left = f.left; shallow = f.shallow; noted = f.noted; example = x; ahead = cells; viable = viable; next = next; dead = dead }
+
 -- The first of two stops the two.
 stuck_first : {why : Why} {A B : Type 0} {G : A → List Cell → Type 0} {S T : List Token → Type 0} {K : A → B → List Cell → Type 0} {ts : List Token} {n : ℕ} {before after : List Begun}
     → Fits G S K T → Stuck why G S ts n before after → Stuck why (Seq G K) T ts n before after
-stuck_first {why = why} {A = A} {B = B} {G = G} {S = S} {T = T} {K = K} {ts = ts} fits f = let x = fits.goes_on f.example in record {
-  used = f.used;
-  tail = f.tail;
-  split = f.split;
-  left = f.left;
-  shallow = f.shallow;
-  noted = f.noted;
-  example = x.value;
-  ahead = f.ahead ++ x.cells;
-  viable = record { first = f.example; front = f.used ++ f.ahead; back = x.cells; spelled = f.viable; then_spelled = x.spelled; whole = sym (append_assoc f.used f.ahead x.cells) };
-  next = next_append why f.tail f.ahead x.cells f.next;
-  dead = dead;
-}
+stuck_first {why = why} {A = A} {B = B} {G = G} {S = S} {T = T} {K = K} {ts = ts} fits f =
+    let x = fits.goes_on f.example in
+    stuck_as f x.value (f.ahead ++ x.cells)
+    (record { first = f.example; front = f.used ++ f.ahead; back = x.cells; spelled = f.viable; then_spelled = x.spelled; whole = sym (append_assoc f.used f.ahead x.cells) })
+    (next_append why f.tail f.ahead x.cells f.next) dead
   where
     dead : (e : B) (w : List Cell) (c more : List Token) → Seq G K e w → T c → head more ≡ head f.tail → tokens_of w ++ c ≡ tokens_of f.used ++ more → Bad why (length f.used) w
     dead e w c more s t h p =
@@ -171,19 +174,8 @@ found_like {ts = ts} {rest = rest} like f = record {
 
 stuck_like : {why : Why} {A : Type 0} {G H : A → List Cell → Type 0} {S T : List Token → Type 0} {ts : List Token} {n : ℕ} {before after : List Begun}
     → Like G S H T ts → Stuck why G S ts n before after → Stuck why H T ts n before after
-stuck_like {ts = ts} like f = record {
-  used = f.used;
-  tail = f.tail;
-  split = f.split;
-  left = f.left;
-  shallow = f.shallow;
-  noted = f.noted;
-  example = f.example;
-  ahead = f.ahead;
-  viable = like.into f.example (f.used ++ f.ahead) f.viable;
-  next = f.next;
-  dead = λ e w c more s t h p. f.dead e w c more (like.from e w c s t (same_next ts f.tail more c w f.used f.split h p)) (like.stops c t) h p;
-}
+stuck_like {ts = ts} like f =
+    stuck_as f f.example f.ahead (like.into f.example (f.used ++ f.ahead) f.viable) f.next (λ e w c more s t h p. f.dead e w c more (like.from e w c s t (same_next ts f.tail more c w f.used f.split h p)) (like.stops c t) h p)
 
 pub fails_like : {A : Type 0} {G H : A → List Cell → Type 0} {S T : List Token → Type 0} {ts : List Token} {before after : List Begun} {stop : Stop}
     → Like G S H T ts → Fails G S ts before after stop → Fails H T ts before after stop
@@ -223,39 +215,25 @@ found_one cell Is S ts rest e before after split is low noted same = record {
       (one, o.whole ∙ ap (λ x. cell x ∷ []) one);
 }
 
+-- A stop at the first token.
+pub stuck_here : {why : Why} {A : Type 0} {G : A → List Cell → Type 0} {S : List Token → Type 0} {ts : List Token} (before : List Begun) (x : A) (cells : List Cell) → G x cells → Next why ts cells
+    → ((e : A) (w : List Cell) (c more : List Token) → G e w → S c → head more ≡ head ts → tokens_of w ++ c ≡ more → Bad why 0 w)
+    → Stuck why G S ts (length ts) before before
+stuck_here {ts = ts} before x cells viable next dead = record { used = []; tail = ts; split = refl; left = refl; shallow = tt; noted = sym (append-nil before); example = x; ahead = cells; viable = viable; next = next; dead = dead }
+
 pub stuck_one : {A : Type 0} (cell : A → Cell) (Is : A → Type 0) (S : List Token → Type 0) (ts : List Token) (x : A) (before : List Begun)
     → Is x → ((other : A) → Is other → head ts ≢ Some (cell other).token)
     → Fails (One cell Is) S ts before before (Unexpected (length ts))
-stuck_one cell Is S ts x before is none = odd (record {
-  used = [];
-  tail = ts;
-  split = refl;
-  left = refl;
-  shallow = tt;
-  noted = sym (append-nil before);
-  example = x;
-  ahead = cell x ∷ [];
-  viable = record { is = is; whole = refl };
-  next = tt;
-  dead = λ other w c more o s h p. none other o.is (sym h ∙ ap head (sym p) ∙ ap (λ cs. head (tokens_of cs ++ c)) o.whole);
-})
+stuck_one cell Is S ts x before is none =
+    odd (stuck_here before x (cell x ∷ []) (record { is = is; whole = refl }) tt (λ other w c more o s h p. none other o.is (sym h ∙ ap head (sym p) ∙ ap (λ cs. head (tokens_of cs ++ c)) o.whole)))
 
 pub deep_one : {A : Type 0} (cell : A → Cell) (Is : A → Type 0) (S : List Token → Type 0) (ts rest : List Token) (x : A) (before : List Begun)
     → ts ≡ (cell x).token ∷ rest → Is x → ((other : A) → DEEPEST_NESTING < (cell other).opens)
     → Fails (One cell Is) S ts before before (TooDeep (length ts))
-deep_one cell Is S ts rest x before split is low = deep (record {
-  used = [];
-  tail = ts;
-  split = refl;
-  left = refl;
-  shallow = tt;
-  noted = sym (append-nil before);
-  example = x;
-  ahead = cell x ∷ [];
-  viable = record { is = is; whole = refl };
-  next = record { cell = cell x; after = []; whole = refl; token = ap head split; deep = low x };
-  dead = λ other w c more o s h p. record { before = []; cell = cell other; after = []; whole = o.whole; «at» = refl; deep = low other };
-})
+deep_one cell Is S ts rest x before split is low =
+    deep (stuck_here before x (cell x ∷ []) (record { is = is; whole = refl })
+    (record { cell = cell x; after = []; whole = refl; token = ap head split; deep = low x })
+    (λ other w c more o s h p. record { before = []; cell = cell other; after = []; whole = o.whole; «at» = refl; deep = low other }))
 
 pub found_tok : (cell : Cell) (S : List Token → Type 0) (ts rest : List Token) (before after : List Begun)
     → ts ≡ cell.token ∷ rest → cell.opens ≤ DEEPEST_NESTING → after ≡ before ++ begun cell ∷ [] → Found (Tok cell) S ts tt rest before after

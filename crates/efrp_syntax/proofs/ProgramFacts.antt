@@ -19,7 +19,7 @@ use Rattle.efrp_syntax.specs.declared.begun.Stop.TheVariants.{Unexpected}
 use Rattle.efrp_syntax.specs.Answers.{head, Found, Fails, odd, Done, Seq, Example, Fits, Like}
 use Rattle.efrp_syntax.specs.Items.{StartsWord, Ends, IsEnd}
 use Rattle.efrp_syntax.specs.Programs.{ReadWhole}
-use Rattle.efrp_syntax.proofs.PhraseLaws.{found_done}
+use Rattle.efrp_syntax.proofs.PhraseLaws.{found_done, stuck_here}
 use Rattle.efrp_syntax.proofs.ItemKinds.{some_done, some_seq, some_row, closing, AllBegin, tokens_then}
 use Rattle.efrp_syntax.proofs.ItemFacts.{setups_begin, outputs_begin}
 use Rattle.efrp_syntax.proofs.DefinitionFacts.{apart, decls_begin}
@@ -136,19 +136,7 @@ program_like {ts = ts} = record { into = into; from = from; stops = λ c t. t }
 
 -- Tokens behind the last item are too many.
 pub not_ended : {A : Type 0} (x : A) (ts : List Token) (before : List Begun) → false ≡ (length ts == 0) → Fails (Done x) IsEnd ts before before (Unexpected (length ts))
-not_ended {A = A} x ts before h = odd (record {
-  used = [];
-  tail = ts;
-  split = refl;
-  left = refl;
-  shallow = tt;
-  noted = sym (append-nil before);
-  example = x;
-  ahead = [];
-  viable = closing x;
-  next = tt;
-  dead = λ e w c more d t p q. some ts h (sym p ∙ ap head (sym q ∙ ap (λ cs. tokens_of cs ++ c) d.whole ∙ t));
-})
+not_ended x ts before h = odd (stuck_here before x [] (closing x) tt (λ e w c more d t p q. some ts h (sym p ∙ ap head (sym q ∙ ap (λ cs. tokens_of cs ++ c) d.whole ∙ t))))
   where
     some : (us : List Token) → false ≡ (length us == 0) → head us ≡ None → ⊥
     some [] e n = cc

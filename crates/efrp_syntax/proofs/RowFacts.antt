@@ -12,7 +12,7 @@ use Rattle.frp_tree.specs.declared.tokens.Token.TheVariants.{Num, Mark}
 use Rattle.frp_tree.specs.Levels.{tighter, repeats, level_of, mark_of, mark_of_shift}
 use Rattle.frp_tree.specs.Tree.{Tree, Const, Binary, Shift}
 use Rattle.frp_tree.specs.Cells.{Cell, plain, node, tokens_of}
-use Rattle.frp_tree.specs.Grammar.{SpellsExpr, literal, named, looked, brackets, signed, converted, chosen, shifted, joined, compared, alone}
+use Rattle.frp_tree.specs.Grammar.{SpellsExpr, literal, joined, compared, alone}
 use Rattle.efrp_syntax.specs.declared.begun.Begun.{Begun}
 use Rattle.efrp_syntax.specs.declared.begun.Stop.{Stop}
 use Rattle.efrp_syntax.specs.declared.begun.TheConstants.{NODE}
@@ -127,17 +127,10 @@ seq_more {us = us} s t = record {
 }
 
 chain : {l : Level} {d : ℕ} {e : Tree} {w : List Cell} → SpellsExpr l d e w → is_row l ≡ true → Seq (SpellsExpr (tighter l) d) (Steps (RowStep l d)) e w
-chain literal h = absurd (false≢true h)
-chain (named k) h = absurd (false≢true h)
-chain (looked ts k s) h = absurd (false≢true h)
-chain (brackets ts s) h = absurd (false≢true h)
-chain (signed ts s) h = absurd (false≢true h)
-chain (converted ts k s) h = absurd (false≢true h)
-chain (chosen ts us vs s t u) h = absurd (false≢true h)
-chain (shifted ts s) h = absurd (false≢true h)
 chain (joined {op = op} {a = a} {b = b} ts us k r s t) h = seq_more (chain s h) (row_step_of op a b us k t)
 chain (compared {l = l} ts us k r s t) h = absurd (false≢true (sym r ∙ row_repeats l h))
 chain (alone k s) h = nothing_more s
+chain _ h = absurd (false≢true h)
 
 unchain : {l : Level} {d : ℕ} {a e : Tree} {ts v : List Cell} → repeats l ≡ true → SpellsExpr l d a ts → Steps (RowStep l d) a e v → SpellsExpr l d e (ts ++ v)
 unchain {l = l} {d = d} {e = e} {ts = ts} r s ends = subst (SpellsExpr l d e) (sym (append-nil ts)) s

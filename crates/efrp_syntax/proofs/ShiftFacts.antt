@@ -11,7 +11,7 @@ use Rattle.frp_tree.specs.declared.tokens.Token.TheVariants.{Num, Mark}
 use Rattle.frp_tree.specs.Levels.{tighter, level_of, mark_of_shift}
 use Rattle.frp_tree.specs.Tree.{Tree, Shift}
 use Rattle.frp_tree.specs.Cells.{Cell, plain, node, tokens_of}
-use Rattle.frp_tree.specs.Grammar.{SpellsExpr, literal, named, looked, brackets, signed, converted, chosen, shifted, joined, compared, alone}
+use Rattle.frp_tree.specs.Grammar.{SpellsExpr, shifted, joined, compared, alone}
 use Rattle.efrp_syntax.specs.declared.begun.Begun.{Begun}
 use Rattle.efrp_syntax.specs.declared.begun.Stop.{Stop}
 use Rattle.efrp_syntax.specs.declared.begun.TheConstants.{NODE}
@@ -24,34 +24,14 @@ use Rattle.efrp_syntax.proofs.RowFacts.{SideOf, Amount, ShiftStep, shift_step, s
 
 no_operator : (op : BinOp) → level_of op ≡ level.Shift → ⊥
 no_operator binary.Or h = cc
-no_operator binary.And h = cc
-no_operator binary.Eq h = cc
-no_operator binary.Ne h = cc
-no_operator binary.Lt h = cc
-no_operator binary.Le h = cc
-no_operator binary.Gt h = cc
-no_operator binary.Ge h = cc
-no_operator binary.BitOr h = cc
-no_operator binary.BitXor h = cc
-no_operator binary.BitAnd h = cc
-no_operator binary.Add h = cc
-no_operator binary.Sub h = cc
-no_operator binary.Mul h = cc
-no_operator binary.Div h = cc
-no_operator binary.Rem h = cc
+no_operator _ h = cc
 
 chain : {l : Level} {d : ℕ} {e : Tree} {w : List Cell} → SpellsExpr l d e w → l ≡ level.Shift → Seq (SpellsExpr level.Sum d) (Steps ShiftStep) e w
-chain literal h = cc
-chain (named k) h = cc
-chain (looked ts k s) h = cc
-chain (brackets ts s) h = cc
-chain (signed ts s) h = cc
-chain (converted ts k s) h = cc
-chain (chosen ts us vs s t u) h = cc
 chain (shifted {side = side} {e = e} {n = n} ts s) h = seq_more (chain s h) (shift_step_of side e n)
 chain (joined {op = op} ts us k r s t) h = absurd (no_operator op (k ∙ h))
 chain (compared {op = op} ts us k r s t) h = absurd (no_operator op (k ∙ h))
 chain {d = d} {e = e} {w = w} (alone k s) h = nothing_more (subst (λ m. SpellsExpr (tighter m) d e w) h s)
+chain _ h = cc
 
 unchain : {d : ℕ} {a e : Tree} {ts v : List Cell} → SpellsExpr level.Shift d a ts → Steps ShiftStep a e v → SpellsExpr level.Shift d e (ts ++ v)
 unchain {d = d} {e = e} {ts = ts} s ends = subst (SpellsExpr level.Shift d e) (sym (append-nil ts)) s

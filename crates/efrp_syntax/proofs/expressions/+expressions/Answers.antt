@@ -10,7 +10,7 @@ use Rattle.efrp_syntax.proofs.PhraseLaws.{found_shorter, answers_stop, answers_l
 use Rattle.efrp_syntax.proofs.RowFacts.{row_first, row_starts, row_goes, row_fails, row_ends}
 use Rattle.efrp_syntax.proofs.ShiftFacts.{shifts_first, shifts_start, shifts_go, shifts_fail, shifts_end}
 use Rattle.efrp_syntax.proofs.ComparisonFacts.{comparison_first, comparison_none, comparison_one, comparison_fails}
-use Rattle.efrp_syntax.proofs.OperandFacts.{head_split, named_like, bracketed_like, signed_like, converted_like, indexed_like, plain_like, choice_like, looser_like, no_operand}
+use Rattle.efrp_syntax.proofs.OperandFacts.{at_head, named_like, bracketed_like, signed_like, converted_like, indexed_like, plain_like, choice_like, looser_like, no_operand}
 use Rattle.efrp_syntax.proofs.ExitFacts.{closed_first, closed_last, closed_found, parenthesis_stops, bracket_stops, done_fits, bracketed_fits, indexed_fits, signed_fits, converted_fits, inside_fits, if_fits, condition_fits, then_fits, yes_fits, else_fits, no_fits, name_fits, found_at, fails_at, found_in, fails_in}
 use Rattle.efrp_syntax.proofs.expressions.+expressions.Goals as goal
 
@@ -18,53 +18,46 @@ use Rattle.efrp_syntax.proofs.expressions.+expressions.Goals as goal
 
 pub bracketed-returns-in_err-inside-clause-answer : goal.bracketed-returns-in_err-inside-clause-answer
 bracketed-returns-in_err-inside-clause-answer t c =
-    let s = head_split c.args.tokens.now (Mark mark.OPENING_PARENTHESIS) c.requires in
-    answers_stop _ _ _ _ _ _ _ _ c.from_residual.ensures.1 (fails_like (bracketed_like c.args.nesting c.args.tokens.now c.requires) (fails_first (bracketed_fits c.args.nesting) (c.in_err-inside.ensures.answer (Mark mark.OPENING_PARENTHESIS) s.0 s.1)))
+    answers_stop _ _ _ _ _ _ _ _ c.from_residual.ensures.1 (fails_like (bracketed_like c.args.nesting c.args.tokens.now c.requires) (fails_first (bracketed_fits c.args.nesting) (at_head _ (Mark mark.OPENING_PARENTHESIS) c.requires c.in_err-inside.ensures.answer)))
 
 pub bracketed-returns-in_err-inner-clause-answer : goal.bracketed-returns-in_err-inner-clause-answer
 bracketed-returns-in_err-inner-clause-answer t c =
-    let s = head_split c.args.tokens.now (Mark mark.OPENING_PARENTHESIS) c.requires in
     let d = c.args.nesting in
     answers_stop _ _ _ _ _ _ _ _ c.from_residual-in_err-inner.ensures.1
-    (fails_like (bracketed_like d c.args.tokens.now c.requires) (fails_next (bracketed_fits d) (c.in_ok-inside.ensures.answer (Mark mark.OPENING_PARENTHESIS) s.0 s.1)
+    (fails_like (bracketed_like d c.args.tokens.now c.requires) (fails_next (bracketed_fits d) (at_head _ (Mark mark.OPENING_PARENTHESIS) c.requires c.in_ok-inside.ensures.answer)
     (closed_first mark.CLOSING_PARENTHESIS d (λ e. e) (Stops level.Operand) parenthesis_stops (fails_in (add-one d) c.in_err-inner.ensures.answer))))
 
 pub bracketed-returns-in_err-rest-clause-answer : goal.bracketed-returns-in_err-rest-clause-answer
 bracketed-returns-in_err-rest-clause-answer t c =
-    let s = head_split c.args.tokens.now (Mark mark.OPENING_PARENTHESIS) c.requires in
     let d = c.args.nesting in
     answers_stop _ _ _ _ _ _ _ _ c.from_residual-in_err-rest.ensures.1
-    (fails_like (bracketed_like d c.args.tokens.now c.requires) (fails_next (bracketed_fits d) (c.in_ok-inside.ensures.answer (Mark mark.OPENING_PARENTHESIS) s.0 s.1)
+    (fails_like (bracketed_like d c.args.tokens.now c.requires) (fails_next (bracketed_fits d) (at_head _ (Mark mark.OPENING_PARENTHESIS) c.requires c.in_ok-inside.ensures.answer)
     (closed_last mark.CLOSING_PARENTHESIS d (λ e. e) (Stops level.Operand) parenthesis_stops (found_in (add-one d) c.in_ok-inner.ensures.answer) c.in_err-rest.ensures)))
 
 pub bracketed-returns-clause-answer : goal.bracketed-returns-clause-answer
 bracketed-returns-clause-answer t c =
-    let s = head_split c.args.tokens.now (Mark mark.OPENING_PARENTHESIS) c.requires in
     let d = c.args.nesting in
-    found_like (bracketed_like d c.args.tokens.now c.requires) (found_next (bracketed_fits d) (c.in_ok-inside.ensures.answer (Mark mark.OPENING_PARENTHESIS) s.0 s.1)
+    found_like (bracketed_like d c.args.tokens.now c.requires) (found_next (bracketed_fits d) (at_head _ (Mark mark.OPENING_PARENTHESIS) c.requires c.in_ok-inside.ensures.answer)
     (closed_found mark.CLOSING_PARENTHESIS d (λ e. e) (Stops level.Operand) parenthesis_stops (found_in (add-one d) c.in_ok-inner.ensures.answer) c.in_ok-rest.ensures))
 
 -- A look-up.
 
 pub looked-returns-in_err-inside-clause-answer : goal.looked-returns-in_err-inside-clause-answer
 looked-returns-in_err-inside-clause-answer t c =
-    let s = head_split c.args.tokens.now (Mark mark.OPENING_BRACKET) c.requires in
-    answers_stop _ _ _ _ _ _ _ _ c.from_residual.ensures.1 (fails_like (indexed_like c.args.table c.args.nesting c.args.tokens.now c.requires) (fails_first (indexed_fits c.args.table c.args.nesting) (c.in_err-inside.ensures.answer (Mark mark.OPENING_BRACKET) s.0 s.1)))
+    answers_stop _ _ _ _ _ _ _ _ c.from_residual.ensures.1 (fails_like (indexed_like c.args.table c.args.nesting c.args.tokens.now c.requires) (fails_first (indexed_fits c.args.table c.args.nesting) (at_head _ (Mark mark.OPENING_BRACKET) c.requires c.in_err-inside.ensures.answer)))
 
 pub looked-returns-in_err-index-clause-answer : goal.looked-returns-in_err-index-clause-answer
 looked-returns-in_err-index-clause-answer t c =
-    let s = head_split c.args.tokens.now (Mark mark.OPENING_BRACKET) c.requires in
     let d = c.args.nesting in
     answers_stop _ _ _ _ _ _ _ _ c.from_residual-in_err-index.ensures.1
-    (fails_like (indexed_like c.args.table d c.args.tokens.now c.requires) (fails_next (indexed_fits c.args.table d) (c.in_ok-inside.ensures.answer (Mark mark.OPENING_BRACKET) s.0 s.1)
+    (fails_like (indexed_like c.args.table d c.args.tokens.now c.requires) (fails_next (indexed_fits c.args.table d) (at_head _ (Mark mark.OPENING_BRACKET) c.requires c.in_ok-inside.ensures.answer)
     (closed_first mark.CLOSING_BRACKET d (Look c.args.table) (Stops level.Operand) bracket_stops (fails_in (add-one d) c.in_err-index.ensures.answer))))
 
 pub looked-returns-in_err-rest-clause-answer : goal.looked-returns-in_err-rest-clause-answer
 looked-returns-in_err-rest-clause-answer t c =
-    let s = head_split c.args.tokens.now (Mark mark.OPENING_BRACKET) c.requires in
     let d = c.args.nesting in
     answers_stop _ _ _ _ _ _ _ _ c.from_residual-in_err-rest.ensures.1
-    (fails_like (indexed_like c.args.table d c.args.tokens.now c.requires) (fails_next (indexed_fits c.args.table d) (c.in_ok-inside.ensures.answer (Mark mark.OPENING_BRACKET) s.0 s.1)
+    (fails_like (indexed_like c.args.table d c.args.tokens.now c.requires) (fails_next (indexed_fits c.args.table d) (at_head _ (Mark mark.OPENING_BRACKET) c.requires c.in_ok-inside.ensures.answer)
     (closed_last mark.CLOSING_BRACKET d (Look c.args.table) (Stops level.Operand) bracket_stops (found_in (add-one d) c.in_ok-index.ensures.answer) c.in_err-rest.ensures)))
 
 pub looked-returns-in_err-index-2-clause-answer : goal.looked-returns-in_err-index-2-clause-answer
@@ -72,9 +65,8 @@ looked-returns-in_err-index-2-clause-answer t c = out_of_memory _ _ _ _ _ _ _ c.
 
 pub looked-returns-clause-answer : goal.looked-returns-clause-answer
 looked-returns-clause-answer t c =
-    let s = head_split c.args.tokens.now (Mark mark.OPENING_BRACKET) c.requires in
     let d = c.args.nesting in
-    rw c.in_ok-index-2.ensures.ok (found_like (indexed_like c.args.table d c.args.tokens.now c.requires) (found_next (indexed_fits c.args.table d) (c.in_ok-inside.ensures.answer (Mark mark.OPENING_BRACKET) s.0 s.1)
+    rw c.in_ok-index-2.ensures.ok (found_like (indexed_like c.args.table d c.args.tokens.now c.requires) (found_next (indexed_fits c.args.table d) (at_head _ (Mark mark.OPENING_BRACKET) c.requires c.in_ok-inside.ensures.answer)
     (closed_found mark.CLOSING_BRACKET d (Look c.args.table) (Stops level.Operand) bracket_stops (found_in (add-one d) c.in_ok-index.ensures.answer) c.in_ok-rest.ensures)))
 
 -- A name.
@@ -96,15 +88,13 @@ named-returns-in-Some-clause-answer t c =
 
 pub signed-returns-in_err-behind-clause-answer : goal.signed-returns-in_err-behind-clause-answer
 signed-returns-in_err-behind-clause-answer t c =
-    let s = head_split c.args.tokens.now (Mark (mark_of_sign c.args.op)) c.requires in
-    answers_stop _ _ _ _ _ _ _ _ c.from_residual.ensures.1 (fails_like (signed_like c.args.op c.args.nesting c.args.tokens.now c.requires) (fails_first (signed_fits c.args.op c.args.nesting) (c.in_err-behind.ensures.answer (Mark (mark_of_sign c.args.op)) s.0 s.1)))
+    answers_stop _ _ _ _ _ _ _ _ c.from_residual.ensures.1 (fails_like (signed_like c.args.op c.args.nesting c.args.tokens.now c.requires) (fails_first (signed_fits c.args.op c.args.nesting) (at_head _ (Mark (mark_of_sign c.args.op)) c.requires c.in_err-behind.ensures.answer)))
 
 pub signed-returns-in_err-inner-clause-answer : goal.signed-returns-in_err-inner-clause-answer
 signed-returns-in_err-inner-clause-answer t c =
-    let s = head_split c.args.tokens.now (Mark (mark_of_sign c.args.op)) c.requires in
     let d = c.args.nesting in
     answers_stop _ _ _ _ _ _ _ _ c.from_residual-in_err-inner.ensures.1
-    (fails_like (signed_like c.args.op d c.args.tokens.now c.requires) (fails_next (signed_fits c.args.op d) (c.in_ok-behind.ensures.answer (Mark (mark_of_sign c.args.op)) s.0 s.1)
+    (fails_like (signed_like c.args.op d c.args.tokens.now c.requires) (fails_next (signed_fits c.args.op d) (at_head _ (Mark (mark_of_sign c.args.op)) c.requires c.in_ok-behind.ensures.answer)
     (fails_first (done_fits (Stops level.Operand) (Unary c.args.op)) (fails_in (add-one d) c.in_err-inner.ensures.answer))))
 
 pub signed-returns-in_err-inner-2-clause-answer : goal.signed-returns-in_err-inner-2-clause-answer
@@ -112,40 +102,35 @@ signed-returns-in_err-inner-2-clause-answer t c = out_of_memory _ _ _ _ _ _ _ c.
 
 pub signed-returns-clause-answer : goal.signed-returns-clause-answer
 signed-returns-clause-answer t c =
-    let s = head_split c.args.tokens.now (Mark (mark_of_sign c.args.op)) c.requires in
     let d = c.args.nesting in
-    rw c.in_ok-inner-2.ensures.ok (found_like (signed_like c.args.op d c.args.tokens.now c.requires) (found_next (signed_fits c.args.op d) (c.in_ok-behind.ensures.answer (Mark (mark_of_sign c.args.op)) s.0 s.1)
+    rw c.in_ok-inner-2.ensures.ok (found_like (signed_like c.args.op d c.args.tokens.now c.requires) (found_next (signed_fits c.args.op d) (at_head _ (Mark (mark_of_sign c.args.op)) c.requires c.in_ok-behind.ensures.answer)
     (found_next (done_fits (Stops level.Operand) (Unary c.args.op)) (found_in (add-one d) c.in_ok-inner.ensures.answer) (found_done (Stops level.Operand) c.in_ok-inner.rest.now (Unary c.args.op (tree_of c.in_ok-inner.inner)) _))))
 
 -- A conversion.
 
 pub converted-returns-in_err-behind-clause-answer : goal.converted-returns-in_err-behind-clause-answer
 converted-returns-in_err-behind-clause-answer t c =
-    let s = head_split c.args.tokens.now (Word (type_name c.args.to)) c.requires.1 in
-    answers_stop _ _ _ _ _ _ _ _ c.from_residual.ensures.1 (fails_like (converted_like c.args.to c.args.nesting c.args.tokens.now c.requires.0 c.requires.1) (fails_first (converted_fits c.args.to c.args.nesting) (c.in_err-behind.ensures.answer (Word (type_name c.args.to)) s.0 s.1)))
+    answers_stop _ _ _ _ _ _ _ _ c.from_residual.ensures.1 (fails_like (converted_like c.args.to c.args.nesting c.args.tokens.now c.requires.0 c.requires.1) (fails_first (converted_fits c.args.to c.args.nesting) (at_head _ (Word (type_name c.args.to)) c.requires.1 c.in_err-behind.ensures.answer)))
 
 pub converted-returns-in_err-inside-clause-answer : goal.converted-returns-in_err-inside-clause-answer
 converted-returns-in_err-inside-clause-answer t c =
-    let s = head_split c.args.tokens.now (Word (type_name c.args.to)) c.requires.1 in
     let d = c.args.nesting in
     answers_stop _ _ _ _ _ _ _ _ c.from_residual-in_err-inside.ensures.1
-    (fails_like (converted_like c.args.to d c.args.tokens.now c.requires.0 c.requires.1) (fails_next (converted_fits c.args.to d) (c.in_ok-behind.ensures.answer (Word (type_name c.args.to)) s.0 s.1)
+    (fails_like (converted_like c.args.to d c.args.tokens.now c.requires.0 c.requires.1) (fails_next (converted_fits c.args.to d) (at_head _ (Word (type_name c.args.to)) c.requires.1 c.in_ok-behind.ensures.answer)
     (fails_first (inside_fits c.args.to d) c.in_err-inside.ensures)))
 
 pub converted-returns-in_err-inner-clause-answer : goal.converted-returns-in_err-inner-clause-answer
 converted-returns-in_err-inner-clause-answer t c =
-    let s = head_split c.args.tokens.now (Word (type_name c.args.to)) c.requires.1 in
     let d = c.args.nesting in
     answers_stop _ _ _ _ _ _ _ _ c.from_residual-in_err-inner.ensures.1
-    (fails_like (converted_like c.args.to d c.args.tokens.now c.requires.0 c.requires.1) (fails_next (converted_fits c.args.to d) (c.in_ok-behind.ensures.answer (Word (type_name c.args.to)) s.0 s.1)
+    (fails_like (converted_like c.args.to d c.args.tokens.now c.requires.0 c.requires.1) (fails_next (converted_fits c.args.to d) (at_head _ (Word (type_name c.args.to)) c.requires.1 c.in_ok-behind.ensures.answer)
     (fails_next (inside_fits c.args.to d) c.in_ok-inside.ensures (closed_first mark.CLOSING_PARENTHESIS d (Convert c.args.to) (Stops level.Operand) parenthesis_stops (fails_in (add-one d) c.in_err-inner.ensures.answer)))))
 
 pub converted-returns-in_err-rest-clause-answer : goal.converted-returns-in_err-rest-clause-answer
 converted-returns-in_err-rest-clause-answer t c =
-    let s = head_split c.args.tokens.now (Word (type_name c.args.to)) c.requires.1 in
     let d = c.args.nesting in
     answers_stop _ _ _ _ _ _ _ _ c.from_residual-in_err-rest.ensures.1
-    (fails_like (converted_like c.args.to d c.args.tokens.now c.requires.0 c.requires.1) (fails_next (converted_fits c.args.to d) (c.in_ok-behind.ensures.answer (Word (type_name c.args.to)) s.0 s.1)
+    (fails_like (converted_like c.args.to d c.args.tokens.now c.requires.0 c.requires.1) (fails_next (converted_fits c.args.to d) (at_head _ (Word (type_name c.args.to)) c.requires.1 c.in_ok-behind.ensures.answer)
     (fails_next (inside_fits c.args.to d) c.in_ok-inside.ensures (closed_last mark.CLOSING_PARENTHESIS d (Convert c.args.to) (Stops level.Operand) parenthesis_stops (found_in (add-one d) c.in_ok-inner.ensures.answer) c.in_err-rest.ensures))))
 
 pub converted-returns-in_err-inner-2-clause-answer : goal.converted-returns-in_err-inner-2-clause-answer
@@ -153,63 +138,56 @@ converted-returns-in_err-inner-2-clause-answer t c = out_of_memory _ _ _ _ _ _ _
 
 pub converted-returns-clause-answer : goal.converted-returns-clause-answer
 converted-returns-clause-answer t c =
-    let s = head_split c.args.tokens.now (Word (type_name c.args.to)) c.requires.1 in
     let d = c.args.nesting in
-    rw c.in_ok-inner-2.ensures.ok (found_like (converted_like c.args.to d c.args.tokens.now c.requires.0 c.requires.1) (found_next (converted_fits c.args.to d) (c.in_ok-behind.ensures.answer (Word (type_name c.args.to)) s.0 s.1)
+    rw c.in_ok-inner-2.ensures.ok (found_like (converted_like c.args.to d c.args.tokens.now c.requires.0 c.requires.1) (found_next (converted_fits c.args.to d) (at_head _ (Word (type_name c.args.to)) c.requires.1 c.in_ok-behind.ensures.answer)
     (found_next (inside_fits c.args.to d) c.in_ok-inside.ensures (closed_found mark.CLOSING_PARENTHESIS d (Convert c.args.to) (Stops level.Operand) parenthesis_stops (found_in (add-one d) c.in_ok-inner.ensures.answer) c.in_ok-rest.ensures))))
 
 -- `if`.
 
 pub choice-returns-in_err-behind_if-clause-answer : goal.choice-returns-in_err-behind_if-clause-answer
 choice-returns-in_err-behind_if-clause-answer t c =
-    let s = head_split c.args.tokens.now (Word (codes "if")) c.requires in
-    answers_stop _ _ _ _ _ _ _ _ c.from_residual.ensures.1 (fails_like (choice_like c.args.nesting c.args.tokens.now c.requires) (fails_first (if_fits c.args.nesting) (c.in_err-behind_if.ensures.answer (Word (codes "if")) s.0 s.1)))
+    answers_stop _ _ _ _ _ _ _ _ c.from_residual.ensures.1 (fails_like (choice_like c.args.nesting c.args.tokens.now c.requires) (fails_first (if_fits c.args.nesting) (at_head _ (Word (codes "if")) c.requires c.in_err-behind_if.ensures.answer)))
 
 pub choice-returns-in_err-condition-clause-answer : goal.choice-returns-in_err-condition-clause-answer
 choice-returns-in_err-condition-clause-answer t c =
-    let s = head_split c.args.tokens.now (Word (codes "if")) c.requires in
     let d = c.args.nesting in
     answers_stop _ _ _ _ _ _ _ _ c.from_residual-in_err-condition.ensures.1
-    (fails_like (choice_like d c.args.tokens.now c.requires) (fails_next (if_fits d) (c.in_ok-behind_if.ensures.answer (Word (codes "if")) s.0 s.1)
+    (fails_like (choice_like d c.args.tokens.now c.requires) (fails_next (if_fits d) (at_head _ (Word (codes "if")) c.requires c.in_ok-behind_if.ensures.answer)
     (fails_first (condition_fits d) (fails_in (add-one d) c.in_err-condition.ensures.answer))))
 
 pub choice-returns-in_err-behind_then-clause-answer : goal.choice-returns-in_err-behind_then-clause-answer
 choice-returns-in_err-behind_then-clause-answer t c =
-    let s = head_split c.args.tokens.now (Word (codes "if")) c.requires in
     let d = c.args.nesting in
     answers_stop _ _ _ _ _ _ _ _ c.from_residual-in_err-behind_then.ensures.1
-    (fails_like (choice_like d c.args.tokens.now c.requires) (fails_next (if_fits d) (c.in_ok-behind_if.ensures.answer (Word (codes "if")) s.0 s.1)
+    (fails_like (choice_like d c.args.tokens.now c.requires) (fails_next (if_fits d) (at_head _ (Word (codes "if")) c.requires c.in_ok-behind_if.ensures.answer)
     (fails_next (condition_fits d) (found_in (add-one d) c.in_ok-condition.ensures.answer) (fails_first (then_fits d (tree_of c.in_ok-condition.condition)) c.in_err-behind_then.ensures))))
 
 pub choice-returns-in_err-yes-clause-answer : goal.choice-returns-in_err-yes-clause-answer
 choice-returns-in_err-yes-clause-answer t c =
-    let s = head_split c.args.tokens.now (Word (codes "if")) c.requires in
     let d = c.args.nesting in
     let x = tree_of c.in_ok-condition.condition in
     answers_stop _ _ _ _ _ _ _ _ c.from_residual-in_err-yes.ensures.1
-    (fails_like (choice_like d c.args.tokens.now c.requires) (fails_next (if_fits d) (c.in_ok-behind_if.ensures.answer (Word (codes "if")) s.0 s.1)
+    (fails_like (choice_like d c.args.tokens.now c.requires) (fails_next (if_fits d) (at_head _ (Word (codes "if")) c.requires c.in_ok-behind_if.ensures.answer)
     (fails_next (condition_fits d) (found_in (add-one d) c.in_ok-condition.ensures.answer) (fails_next (then_fits d x) c.in_ok-behind_then.ensures
     (fails_first (yes_fits d x) (fails_in (add-one d) c.in_err-yes.ensures.answer))))))
 
 pub choice-returns-in_err-behind_else-clause-answer : goal.choice-returns-in_err-behind_else-clause-answer
 choice-returns-in_err-behind_else-clause-answer t c =
-    let s = head_split c.args.tokens.now (Word (codes "if")) c.requires in
     let d = c.args.nesting in
     let x = tree_of c.in_ok-condition.condition in
     let y = tree_of c.in_ok-yes.yes in
     answers_stop _ _ _ _ _ _ _ _ c.from_residual-in_err-behind_else.ensures.1
-    (fails_like (choice_like d c.args.tokens.now c.requires) (fails_next (if_fits d) (c.in_ok-behind_if.ensures.answer (Word (codes "if")) s.0 s.1)
+    (fails_like (choice_like d c.args.tokens.now c.requires) (fails_next (if_fits d) (at_head _ (Word (codes "if")) c.requires c.in_ok-behind_if.ensures.answer)
     (fails_next (condition_fits d) (found_in (add-one d) c.in_ok-condition.ensures.answer) (fails_next (then_fits d x) c.in_ok-behind_then.ensures
     (fails_next (yes_fits d x) (found_in (add-one d) c.in_ok-yes.ensures.answer) (fails_first (else_fits d x y) c.in_err-behind_else.ensures))))))
 
 pub choice-returns-in_err-no-clause-answer : goal.choice-returns-in_err-no-clause-answer
 choice-returns-in_err-no-clause-answer t c =
-    let s = head_split c.args.tokens.now (Word (codes "if")) c.requires in
     let d = c.args.nesting in
     let x = tree_of c.in_ok-condition.condition in
     let y = tree_of c.in_ok-yes.yes in
     answers_stop _ _ _ _ _ _ _ _ c.from_residual-in_err-no.ensures.1
-    (fails_like (choice_like d c.args.tokens.now c.requires) (fails_next (if_fits d) (c.in_ok-behind_if.ensures.answer (Word (codes "if")) s.0 s.1)
+    (fails_like (choice_like d c.args.tokens.now c.requires) (fails_next (if_fits d) (at_head _ (Word (codes "if")) c.requires c.in_ok-behind_if.ensures.answer)
     (fails_next (condition_fits d) (found_in (add-one d) c.in_ok-condition.ensures.answer) (fails_next (then_fits d x) c.in_ok-behind_then.ensures
     (fails_next (yes_fits d x) (found_in (add-one d) c.in_ok-yes.ensures.answer) (fails_next (else_fits d x y) c.in_ok-behind_else.ensures
     (fails_first (no_fits d x y) (fails_in (add-one d) c.in_err-no.ensures.answer))))))))
@@ -225,13 +203,12 @@ choice-returns-in_err-no-2-clause-answer t c = out_of_memory _ _ _ _ _ _ _ c.fro
 
 pub choice-returns-clause-answer : goal.choice-returns-clause-answer
 choice-returns-clause-answer t c =
-    let s = head_split c.args.tokens.now (Word (codes "if")) c.requires in
     let d = c.args.nesting in
     let x = tree_of c.in_ok-condition.condition in
     let y = tree_of c.in_ok-yes.yes in
     let z = tree_of c.in_ok-no.no in
     rw (c.in_ok-condition-2.ensures.ok, c.in_ok-yes-2.ensures.ok, c.in_ok-no-2.ensures.ok)
-    (found_like (choice_like d c.args.tokens.now c.requires) (found_next (if_fits d) (c.in_ok-behind_if.ensures.answer (Word (codes "if")) s.0 s.1)
+    (found_like (choice_like d c.args.tokens.now c.requires) (found_next (if_fits d) (at_head _ (Word (codes "if")) c.requires c.in_ok-behind_if.ensures.answer)
     (found_next (condition_fits d) (found_in (add-one d) c.in_ok-condition.ensures.answer) (found_next (then_fits d x) c.in_ok-behind_then.ensures
     (found_next (yes_fits d x) (found_in (add-one d) c.in_ok-yes.ensures.answer) (found_next (else_fits d x y) c.in_ok-behind_else.ensures
     (found_next (no_fits d x y) (found_in (add-one d) c.in_ok-no.ensures.answer) (found_done (Stops level.Whole) c.in_ok-no.rest.now (If x y z) _))))))))
