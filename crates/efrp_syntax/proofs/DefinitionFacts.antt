@@ -26,7 +26,7 @@ use Rattle.efrp_syntax.specs.Expressions.{Stops}
 use Rattle.efrp_syntax.specs.Items.{StartsWord, StartsMark, StartsName, Ends, EndsItem, NameOf, LiteralOf, TypeOf, Later, EntryOf, EntriesBehind, PlainForm, InputForm, FirstEntry, TableForm, ReactiveForm}
 use Rattle.efrp_syntax.proofs.PhraseLaws.{found_like, found_next, found_done, fails_like, fails_first, fails_next, seq}
 use Rattle.efrp_syntax.proofs.EndFacts.{stops_word}
-use Rattle.efrp_syntax.proofs.ItemKinds.{some_one, some_tok, some_done, some_seq, some_row, fits_any, opened, opening, closing, AllBegin, tokens_then}
+use Rattle.efrp_syntax.proofs.ItemKindFacts.{some_one, some_tok, some_done, some_seq, some_row, fits_any, opened, opening, closing, AllBegin, tokens_then}
 use Rattle.efrp_syntax.proofs.ItemFacts.{some_name, some_expr, whole_stops, join}
 
 abbrev pub is_mark : ℕ → Option Token → Bool

@@ -17,7 +17,7 @@ use Rattle.efrp_syntax.specs.Expressions.{Stops}
 use Rattle.efrp_syntax.specs.Items.{StartsWord, NameOf, NumberOf, HeaderOf, LastNumber, EndsItem}
 use Rattle.efrp_syntax.proofs.PhraseLaws.{seq}
 use Rattle.efrp_syntax.proofs.EndFacts.{stops_mark}
-use Rattle.efrp_syntax.proofs.ItemKinds.{some_one, some_tok, some_done, some_seq, fits_any, opened, opening, closing, AllBegin}
+use Rattle.efrp_syntax.proofs.ItemKindFacts.{some_one, some_tok, some_done, some_seq, fits_any, opened, opening, closing, AllBegin}
 
 -- Some name, some number, some expression.
 pub some_name : Example NameOf

@@ -9,7 +9,7 @@ pub mod FirstMarkFacts
 pub mod FirstNumberFacts
 pub mod FirstTokenFacts
 pub mod ItemFacts
-pub mod ItemKinds
+pub mod ItemKindFacts
 pub mod LoopLaws
 pub mod OperandFacts
 pub mod ParsedFacts

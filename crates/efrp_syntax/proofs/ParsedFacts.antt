@@ -32,7 +32,7 @@ use Rattle.efrp_syntax.specs.Parsed.{HasFault, Parsed, IsProgram, IsSyntaxFault}
 use Rattle.efrp_syntax.specs.Lexed.{Lexed}
 use Rattle.efrp_syntax.proofs.CuttingFacts.{fault_none, one_fault as one_lexed}
 use Rattle.efrp_syntax.proofs.PhraseLaws.{map_append}
-use Rattle.efrp_syntax.proofs.ItemKinds.{tokens_then}
+use Rattle.efrp_syntax.proofs.ItemKindFacts.{tokens_then}
 
 -- Notes of cells.
 

@@ -20,7 +20,7 @@ use Rattle.efrp_syntax.specs.Answers.{head, Found, Fails, odd, Done, Seq, Exampl
 use Rattle.efrp_syntax.specs.Items.{StartsWord, Ends, IsEnd}
 use Rattle.efrp_syntax.specs.Programs.{ReadWhole}
 use Rattle.efrp_syntax.proofs.PhraseLaws.{found_done, stuck_here}
-use Rattle.efrp_syntax.proofs.ItemKinds.{some_done, some_seq, some_row, closing, AllBegin, tokens_then}
+use Rattle.efrp_syntax.proofs.ItemKindFacts.{some_done, some_seq, some_row, closing, AllBegin, tokens_then}
 use Rattle.efrp_syntax.proofs.ItemFacts.{setups_begin, outputs_begin}
 use Rattle.efrp_syntax.proofs.DefinitionFacts.{apart, decls_begin}
 

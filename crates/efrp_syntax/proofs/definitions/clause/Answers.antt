@@ -1,5 +1,5 @@
 use Rattle.efrp_syntax.proofs.PhraseLaws.{fails_like, fails_first, fails_next, found_like, found_next, found_done}
-use Rattle.efrp_syntax.proofs.ItemKinds.{exits}
+use Rattle.efrp_syntax.proofs.ItemKindFacts.{exits}
 use Rattle.efrp_syntax.proofs.DefinitionFacts.{clause_fits_1, clause_fits_2, clause_fits_3, clause_fits_4, clause_fits_5, clause_like}
 use Rattle.efrp_syntax.proofs.definitions.clause.Goals as goal
 

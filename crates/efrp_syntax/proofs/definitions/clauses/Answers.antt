@@ -2,7 +2,7 @@ use Rattle.frp_tree.specs.Grammar.{SpellsClause}
 use Rattle.frp_tree.specs.Tree.{clause_of}
 use Rattle.efrp_syntax.specs.Items.{StartsName}
 use Rattle.efrp_syntax.proofs.PhraseLaws.{out_of_memory, map_append}
-use Rattle.efrp_syntax.proofs.ItemKinds.{exits, read_start, read_next, read_stop, read_all, read_shorter}
+use Rattle.efrp_syntax.proofs.ItemKindFacts.{exits, read_start, read_next, read_stop, read_all, read_shorter}
 use Rattle.efrp_syntax.proofs.DefinitionFacts.{clauses_begin, no_name_here}
 use Rattle.efrp_syntax.proofs.definitions.clauses.Goals as goal
 

@@ -2,7 +2,7 @@ use Rattle.std.proofs.Common.{length, map}
 use Rattle.frp_tree.specs.Tree.{clause_of}
 use Rattle.frp_tree.specs.Grammar.{SpellsClause}
 use Rattle.efrp_syntax.specs.Items.{StartsName}
-use Rattle.efrp_syntax.proofs.ItemKinds.{HasRead}
+use Rattle.efrp_syntax.proofs.ItemKindFacts.{HasRead}
 use Rattle.efrp_syntax.proofs.definitions.clauses.Given as goal
 
 abbrev pub invariant-row : goal.invariant-row

@@ -1,5 +1,5 @@
 use Rattle.efrp_syntax.proofs.PhraseLaws.{fails_like, fails_first, fails_next, found_like, found_next, found_done}
-use Rattle.efrp_syntax.proofs.ItemKinds.{exits}
+use Rattle.efrp_syntax.proofs.ItemKindFacts.{exits}
 use Rattle.efrp_syntax.proofs.DefinitionFacts.{decl_fits_1, decl_fits_2, decl_fits_3, decl_fits_4, decl_fits_5, decl_fits_6, decl_fits_7, decl_like}
 use Rattle.efrp_syntax.proofs.definitions.decl.Goals as goal
 

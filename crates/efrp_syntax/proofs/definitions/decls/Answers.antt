@@ -3,7 +3,7 @@ use Rattle.frp_tree.specs.Grammar.{SpellsDecl}
 use Rattle.frp_tree.specs.Tree.{decl_of}
 use Rattle.efrp_syntax.specs.Items.{StartsWord}
 use Rattle.efrp_syntax.proofs.PhraseLaws.{out_of_memory, map_append}
-use Rattle.efrp_syntax.proofs.ItemKinds.{exits, read_start, read_next, read_stop, read_all, read_shorter}
+use Rattle.efrp_syntax.proofs.ItemKindFacts.{exits, read_start, read_next, read_stop, read_all, read_shorter}
 use Rattle.efrp_syntax.proofs.DefinitionFacts.{decls_begin}
 use Rattle.efrp_syntax.proofs.definitions.decls.Goals as goal
 

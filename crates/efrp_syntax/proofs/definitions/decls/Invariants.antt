@@ -2,7 +2,7 @@ use Rattle.std.proofs.Common.{length, codes, map}
 use Rattle.frp_tree.specs.Tree.{decl_of}
 use Rattle.frp_tree.specs.Grammar.{SpellsDecl}
 use Rattle.efrp_syntax.specs.Items.{StartsWord}
-use Rattle.efrp_syntax.proofs.ItemKinds.{HasRead}
+use Rattle.efrp_syntax.proofs.ItemKindFacts.{HasRead}
 use Rattle.efrp_syntax.proofs.definitions.decls.Given as goal
 
 abbrev pub invariant-row : goal.invariant-row

@@ -1,6 +1,6 @@
 use Rattle.std.proofs.Common.{ap, ◌+◌}
 use Rattle.efrp_syntax.proofs.PhraseLaws.{out_of_memory}
-use Rattle.efrp_syntax.proofs.ItemKinds.{exits}
+use Rattle.efrp_syntax.proofs.ItemKindFacts.{exits}
 use Rattle.efrp_syntax.proofs.DefinitionFacts.{entries_start, entries_next, entries_stop, entries_all, entry_shorter}
 use Rattle.efrp_syntax.proofs.definitions.entries.Goals as goal
 

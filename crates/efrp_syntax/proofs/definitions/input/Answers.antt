@@ -1,6 +1,6 @@
 use Rattle.frp_tree.specs.Tree.{Input}
 use Rattle.efrp_syntax.proofs.PhraseLaws.{fails_first, fails_next, found_next, found_done}
-use Rattle.efrp_syntax.proofs.ItemKinds.{exits, some_done, some_seq, fits_any}
+use Rattle.efrp_syntax.proofs.ItemKindFacts.{exits, some_done, some_seq, fits_any}
 use Rattle.efrp_syntax.proofs.ItemFacts.{some_name}
 use Rattle.efrp_syntax.proofs.definitions.input.Goals as goal
 

@@ -1,6 +1,6 @@
 use Rattle.std.proofs.Common.{true}
 use Rattle.efrp_syntax.proofs.PhraseLaws.{fails_like, fails_first}
-use Rattle.efrp_syntax.proofs.ItemKinds.{exits, some_done, fits_any}
+use Rattle.efrp_syntax.proofs.ItemKindFacts.{exits, some_done, fits_any}
 use Rattle.efrp_syntax.proofs.DefinitionFacts.{later_like}
 use Rattle.efrp_syntax.proofs.definitions.later.Goals as goal
 

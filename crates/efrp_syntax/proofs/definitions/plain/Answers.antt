@@ -1,5 +1,5 @@
 use Rattle.efrp_syntax.proofs.PhraseLaws.{fails_first, found_next, found_done}
-use Rattle.efrp_syntax.proofs.ItemKinds.{exits}
+use Rattle.efrp_syntax.proofs.ItemKindFacts.{exits}
 use Rattle.efrp_syntax.proofs.DefinitionFacts.{plain_fits}
 use Rattle.efrp_syntax.proofs.definitions.plain.Goals as goal
 

@@ -1,5 +1,5 @@
 use Rattle.efrp_syntax.proofs.PhraseLaws.{fails_first, fails_next, found_next, found_done}
-use Rattle.efrp_syntax.proofs.ItemKinds.{exits}
+use Rattle.efrp_syntax.proofs.ItemKindFacts.{exits}
 use Rattle.efrp_syntax.proofs.DefinitionFacts.{reactive_fits_1, reactive_fits_2, reactive_fits_3, reactive_fits_4, reactive_fits_5, reactive_fits_6}
 use Rattle.efrp_syntax.proofs.definitions.reactive.Goals as goal
 

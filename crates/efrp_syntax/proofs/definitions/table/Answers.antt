@@ -1,5 +1,5 @@
 use Rattle.efrp_syntax.proofs.PhraseLaws.{fails_first, fails_next, found_next, found_done}
-use Rattle.efrp_syntax.proofs.ItemKinds.{exits}
+use Rattle.efrp_syntax.proofs.ItemKindFacts.{exits}
 use Rattle.efrp_syntax.proofs.DefinitionFacts.{table_fits_1, table_fits_2, table_fits_3, table_fits_4, table_fits_5}
 use Rattle.efrp_syntax.proofs.definitions.table.Goals as goal
 

@@ -3,7 +3,7 @@ use Rattle.frp_tree.specs.Names.{type_name}
 use Rattle.frp_tree.specs.declared.syntax.Ty.TheVariants as ty
 use Rattle.efrp_syntax.specs.Answers.{Anything}
 use Rattle.efrp_syntax.proofs.PhraseLaws.{stuck_one}
-use Rattle.efrp_syntax.proofs.ItemKinds.{exits}
+use Rattle.efrp_syntax.proofs.ItemKindFacts.{exits}
 use Rattle.efrp_syntax.proofs.DefinitionFacts.{type_failed}
 use Rattle.efrp_syntax.proofs.definitions.ty.Goals as goal
 

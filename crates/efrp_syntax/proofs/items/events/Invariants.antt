@@ -1,7 +1,7 @@
 use Rattle.std.proofs.Common.{length, codes}
 use Rattle.frp_tree.specs.Grammar.{SpellsEvent}
 use Rattle.efrp_syntax.specs.Items.{StartsWord}
-use Rattle.efrp_syntax.proofs.ItemKinds.{HasRead}
+use Rattle.efrp_syntax.proofs.ItemKindFacts.{HasRead}
 use Rattle.efrp_syntax.proofs.items.events.Given as goal
 
 abbrev pub invariant-row : goal.invariant-row

@@ -1,5 +1,5 @@
 use Rattle.efrp_syntax.proofs.PhraseLaws.{fails_first, fails_next, found_next, found_done}
-use Rattle.efrp_syntax.proofs.ItemKinds.{exits, some_tok, some_done, some_seq, fits_any}
+use Rattle.efrp_syntax.proofs.ItemKindFacts.{exits, some_tok, some_done, some_seq, fits_any}
 use Rattle.efrp_syntax.proofs.ItemFacts.{some_name}
 use Rattle.efrp_syntax.proofs.items.header.Goals as goal
 

@@ -1,5 +1,5 @@
 use Rattle.efrp_syntax.proofs.PhraseLaws.{fails_first, fails_next}
-use Rattle.efrp_syntax.proofs.ItemKinds.{exits, some_tok, some_done, some_seq, fits_any}
+use Rattle.efrp_syntax.proofs.ItemKindFacts.{exits, some_tok, some_done, some_seq, fits_any}
 use Rattle.efrp_syntax.proofs.items.last_number.Goals as goal
 
 pub returns-in_err-value : goal.returns-in_err-value

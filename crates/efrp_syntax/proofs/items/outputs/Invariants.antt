@@ -2,7 +2,7 @@ use Rattle.std.proofs.Common.{length, codes, map}
 use Rattle.frp_tree.specs.Tree.{output_of}
 use Rattle.frp_tree.specs.Grammar.{SpellsOutput}
 use Rattle.efrp_syntax.specs.Items.{StartsWord}
-use Rattle.efrp_syntax.proofs.ItemKinds.{HasRead}
+use Rattle.efrp_syntax.proofs.ItemKindFacts.{HasRead}
 use Rattle.efrp_syntax.proofs.items.outputs.Given as goal
 
 abbrev pub invariant-row : goal.invariant-row

@@ -2,7 +2,7 @@ use Rattle.std.proofs.Common.{codes}
 use Rattle.frp_tree.specs.Grammar.{SpellsSetup}
 use Rattle.efrp_syntax.specs.Items.{StartsWord}
 use Rattle.efrp_syntax.proofs.PhraseLaws.{out_of_memory}
-use Rattle.efrp_syntax.proofs.ItemKinds.{exits, read_start, read_next, read_stop, read_all, read_shorter}
+use Rattle.efrp_syntax.proofs.ItemKindFacts.{exits, read_start, read_next, read_stop, read_all, read_shorter}
 use Rattle.efrp_syntax.proofs.ItemFacts.{setups_begin}
 use Rattle.efrp_syntax.proofs.items.setups.Goals as goal
 
