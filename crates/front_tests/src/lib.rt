@@ -2,7 +2,12 @@
 #![tactic(auto)]
 
 #[cfg(test)]
+mod again_tests;
+#[cfg(test)]
 mod parse_tests;
+#[cfg(test)]
 mod printing_tests;
+#[cfg(test)]
+mod sources;
 #[cfg(test)]
 mod token_tests;

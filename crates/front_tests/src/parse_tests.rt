@@ -1,47 +1,11 @@
 // Source texts have the trees that their authors mean, and broken ones their first faults.
+use crate::sources::{
+    CONTROLLER, COUNTER, DIVISION, INPUTS, LATER, TABLES, TWO_STATES, repeated, sizes,
+};
 use efrp_syntax::{SyntaxFault, parse};
 use frp_tree::{Behaviour, BinOp, Expr, Kind, Lit, Program, Side, Ty};
 use std::alloc::{AllocError, Global};
 use std::test::Fail;
-
-const COUNTER: &str =
-    "event Tick = INT priority 1;\nsetup TRISB = 0;\nlet n : u8 = init 0 in { Tick => n + 1; };\noutput PORTB = n;\n";
-
-const TWO_STATES: &str =
-    "event Tick = INT priority 1; let a : u8 = init 5 in { Tick => a + 1 later; }; let b : u8 = init 0 in { Tick => a; }; output PORTB = a;";
-
-const LATER: &str =
-    "event Go = T0 priority 2; let x : u8 = init 1 in { Go => y + 1 later; }; let y : u8 = init 2 in { Go => x + x; };";
-
-const DIVISION: &str =
-    "event Low = TMR1 priority 1;\nevent High = INT priority 2;\nlet d : u16 = init 3w in { High => d + 2w; };\nlet q : u16 = init 0w in { Low => 60000w / d; };\n";
-
-const CONTROLLER: &str = "event Slow = TMR1 priority 1;
-event Tick = TMR2 priority 3;
-event Up = INT priority 2;
-event Down = CCP1 priority 2;
-setup TRISB = 1;
-setup TRISC = 0;
-setup OPTION_REG = 0xC0;
-setup PR2 = 249;
-setup T2CON = 0x05;
-let goal : u8 = init 0 in {
-  Up => if goal < 250 then goal + 5 else 250;
-  Down => if goal > 5 then goal - 5 else 0; };
-let speed : u8 = init 0 in {
-  Slow => if speed < goal then speed + 1 else if speed > goal then speed - 1 else speed; };
-let phase : u8 = init 0 in { Tick => phase + 1; };
-let duty : bool = phase < speed;
-let runtime : u16 = init 0w in { Slow => runtime + 1w later; };
-output PORTC = if duty then 1 else 0;
-output PORTB = u8(runtime >> 8);
-";
-
-const INPUTS: &str =
-    "event Tick = INT priority 1;\nsetup TRISC = 0;\nlet level : u8 = input PORTB;\nlet top : u8 = init 0 in { Tick => if level > top then level else top; };\noutput PORTC = top;\n";
-
-const TABLES: &str =
-    "event Tick = INT priority 1;\nsetup TRISB = 0;\nlet wave : u8 = table { 0, 10, 30, 60, 100 };\nlet i : u8 = init 0 in { Tick => i + 3; };\noutput PORTB = wave[i];\n";
 
 /// The counter's tokens, and after how many of them it is a program.
 const WORDS: [&str; 34] = [
@@ -51,16 +15,6 @@ const WORDS: [&str; 34] = [
 ];
 
 const WHOLE: [usize; 5] = [0, 7, 12, 29, 34];
-
-/// How many events, setups, definitions and outputs a program has.
-fn sizes(p: &Program) -> (usize, usize, usize, usize) {
-    (
-        p.events.len(),
-        p.setups.len(),
-        p.decls.len(),
-        p.outputs.len(),
-    )
-}
 
 #[test]
 fn worked_sources(rt: HostRuntime) -> Result<(), Fail> {
@@ -83,22 +37,6 @@ fn worked_sources(rt: HostRuntime) -> Result<(), Fail> {
 /// What a text is refused with.
 fn fault_of(alloc: Global, text: &str) -> Option<SyntaxFault> {
     parse(alloc, text.as_bytes()).err()
-}
-
-/// The piece this many times, between two texts.
-fn repeated(
-    alloc: Global,
-    front: &str,
-    piece: &str,
-    times: usize,
-    back: &str,
-) -> Result<String, AllocError> {
-    let mut text = String::from_str(alloc, front)?;
-    for _ in 0..times {
-        text.push_str(piece)?;
-    }
-    text.push_str(back)?;
-    Ok(text)
 }
 
 #[test]
