@@ -1,3 +1,4 @@
+pub mod Laws
 pub mod NameFaults
 pub mod Passes
 pub mod TypeFaults

@@ -2,5 +2,9 @@
 #![tactic(auto)]
 
 mod faults;
+mod laws;
 
 pub use faults::CheckFault;
+pub use laws::{
+    no_fault_is_good, no_fault_is_typed, passed_reacts, passed_runs, typed_has_no_fault,
+};

@@ -1,0 +1,2 @@
+-- The faults of programs, computed.
+pub mod Faults

@@ -1,0 +1,5 @@
+pub mod Examples
+pub mod GoodLaws
+pub mod ListFacts
+pub mod NodeLaws
+pub mod TypedLaws
