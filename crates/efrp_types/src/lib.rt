@@ -3,8 +3,12 @@
 
 mod faults;
 mod laws;
+mod lookups;
+mod names;
+mod reasons;
 
 pub use faults::CheckFault;
 pub use laws::{
     no_fault_is_good, no_fault_is_typed, passed_reacts, passed_runs, typed_has_no_fault,
 };
+pub use names::check_names;
