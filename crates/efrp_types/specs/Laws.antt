@@ -4,6 +4,7 @@ use Rattle.std.specs.List.{AllByRecursion, IsDistinct}
 use Rattle.std.specs.Str.{bytes_eq}
 use Rattle.frp_tree.specs.declared.syntax.Event.{Event}
 use Rattle.frp_tree.specs.declared.syntax.Setup.{Setup}
+use Rattle.frp_tree.specs.Grammar.{Spells}
 use Rattle.frp_tree.specs.Limits.{converts_to_numbers, converts_in}
 use Rattle.frp_tree.specs.Priorities.{HasPriorities}
 use Rattle.frp_tree.specs.Tree.{BehaviourTree, Plain, Input, Table, Reactive, DeclTree, OutputTree, ProgramTree}
@@ -23,11 +24,15 @@ HasEntries (Input port) = Unit {0}
 HasEntries (Table entries) = 0 < length entries
 HasEntries (Reactive init clauses) = Unit {0}
 
--- What each program that a text spells keeps, and what a tree may lack: no conversion is to bool, and no table is empty.
+-- No conversion is to bool, and no table is empty. A tree may lack either.
 pub record IsWellFormed (p : ProgramTree) : Type 0 where
   pub decl_conversions : AllByRecursion (λ (d : DeclTree). converts_in d.behaviour ≡ true) p.decls
   pub output_conversions : AllByRecursion (λ (o : OutputTree). converts_to_numbers o.expr ≡ true) p.outputs
   pub entries : AllByRecursion (λ (d : DeclTree). HasEntries d.behaviour) p.decls
+
+-- What a text spells is well formed.
+abbrev pub SpelledIsWellFormed : ProgramTree → Type 0
+SpelledIsWellFormed p = (text : List ℕ) → Spells text p → IsWellFormed p
 
 -- The byte of each setup is one.
 abbrev pub HasSetupBytes : ProgramTree → Type 0
