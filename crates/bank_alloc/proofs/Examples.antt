@@ -1,0 +1,2 @@
+-- Addresses, computed.
+mod Places

@@ -1,0 +1,2 @@
+-- What operations mean, computed.
+mod Operations
