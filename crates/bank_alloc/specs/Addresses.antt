@@ -3,7 +3,7 @@ use Rattle.std.specs.Prelude.{ℕ, ◌+◌, ◌-◌, ◌*◌, Bool, ◌||◌, na
 use Rattle.pic_regs.specs.Map.{within}
 use Rattle.bank_alloc.specs.declared.needs.Needs.{Needs}
 
--- The addresses of general bytes of one bank.
+-- The addresses of general bytes that lie in one bank alone.
 abbrev pub is_general : ℕ → Bool
 is_general address = within 0x020 0x06F address || within 0x0A0 0x0EF address || within 0x110 0x16F address || within 0x190 0x1EF address
 

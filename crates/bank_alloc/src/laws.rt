@@ -14,7 +14,7 @@ pub fn addresses_are_general()
     ensures { (need : AnyNeeds) → AddressesAreGeneral need }
 {}
 
-/// A banked general byte is a plain byte of the register map, and lies there alone.
+/// A banked general byte is a plain byte of the register map, at this address.
 pub fn general_is_plain()
     ensures { (address : ℕ) → GeneralIsPlain address }
 {}
