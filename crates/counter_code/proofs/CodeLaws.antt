@@ -6,7 +6,7 @@ use Rattle.pic_isa.specs.declared.bits.TheConstants.{RP0, GIE}
 use Rattle.pic_isa.specs.declared.instructions.Instr.{Instr}
 use Rattle.pic_isa.specs.declared.instructions.Instr.TheVariants.{Bcf, Bsf, Goto}
 use Rattle.pic_isa.specs.declared.sources.Source.{Source}
-use Rattle.pic_isa.specs.declared.sources.Source.TheVariants.{T0, Int, Psp, Ad, Ssp, Ccp1, Tmr2, Tmr1, Ee, Bcl, Ccp2}
+use Rattle.pic_isa.specs.declared.sources.Source.TheVariants.{T0, Int}
 use Rattle.pic_isa.specs.Instructions.{FieldsFit}
 use Rattle.hex_file.specs.Written.{IsWritable, RisesFrom}
 use Rattle.pic_isa.specs.Names.{register_at}
@@ -59,41 +59,15 @@ fit_high (Some s) fine = elim (in_bank_1 s.address) as (λ b. AllFit (cond b (se
 fit_enable : (source : Source) → AllFit (cond (is_peripheral source) (set_bit (enable_of source) ∷ []) [])
 fit_enable T0 = tt
 fit_enable Int = tt
-fit_enable Psp = ((lit< tt, lit< tt), tt)
-fit_enable Ad = ((lit< tt, lit< tt), tt)
-fit_enable Ssp = ((lit< tt, lit< tt), tt)
-fit_enable Ccp1 = ((lit< tt, lit< tt), tt)
-fit_enable Tmr2 = ((lit< tt, lit< tt), tt)
-fit_enable Tmr1 = ((lit< tt, lit< tt), tt)
-fit_enable Ee = ((lit< tt, lit< tt), tt)
-fit_enable Bcl = ((lit< tt, lit< tt), tt)
-fit_enable Ccp2 = ((lit< tt, lit< tt), tt)
+fit_enable _ = ((lit< tt, lit< tt), tt)
 
 fit_intcon_enable : (source : Source) → FieldsFit (intcon_enable source)
 fit_intcon_enable T0 = (lit< tt, lit< tt)
-fit_intcon_enable Int = (lit< tt, lit< tt)
-fit_intcon_enable Psp = (lit< tt, lit< tt)
-fit_intcon_enable Ad = (lit< tt, lit< tt)
-fit_intcon_enable Ssp = (lit< tt, lit< tt)
-fit_intcon_enable Ccp1 = (lit< tt, lit< tt)
-fit_intcon_enable Tmr2 = (lit< tt, lit< tt)
-fit_intcon_enable Tmr1 = (lit< tt, lit< tt)
-fit_intcon_enable Ee = (lit< tt, lit< tt)
-fit_intcon_enable Bcl = (lit< tt, lit< tt)
-fit_intcon_enable Ccp2 = (lit< tt, lit< tt)
+fit_intcon_enable _ = (lit< tt, lit< tt)
 
 fit_clear : (source : Source) → FieldsFit (clear_bit (flag_of source))
 fit_clear T0 = (lit< tt, lit< tt)
-fit_clear Int = (lit< tt, lit< tt)
-fit_clear Psp = (lit< tt, lit< tt)
-fit_clear Ad = (lit< tt, lit< tt)
-fit_clear Ssp = (lit< tt, lit< tt)
-fit_clear Ccp1 = (lit< tt, lit< tt)
-fit_clear Tmr2 = (lit< tt, lit< tt)
-fit_clear Tmr1 = (lit< tt, lit< tt)
-fit_clear Ee = (lit< tt, lit< tt)
-fit_clear Bcl = (lit< tt, lit< tt)
-fit_clear Ccp2 = (lit< tt, lit< tt)
+fit_clear _ = (lit< tt, lit< tt)
 
 fit_within : (code : List Instr) → AllFit code → AllFit (within_bank_1 code)
 fit_within [] all = tt
