@@ -132,25 +132,20 @@ abbrev code_by : Counter → List Instr → List Instr → List Instr → List I
 code_by c lows highs enable =
     take 3 (boot_by c lows highs enable) ++ (Goto boot_rest ∷ handler c ++ (drop 3 (boot_by c lows highs enable) ++ Goto (ready_address c) ∷ []))
 
-boot_of_shape : (c : Counter) (kind : Kind) (peripheral : Bool) →
-    boot_by c (map (instruction c) (low kind)) (map (instruction c) (high kind)) (map (instruction c) (enables_high peripheral)) ≡ map (instruction c) (boot_spots kind peripheral)
-boot_of_shape c NoSetup true = refl
-boot_of_shape c NoSetup false = refl
-boot_of_shape c _ true = refl
-boot_of_shape c _ false = refl
-
-code_of_shape : (c : Counter) (kind : Kind) (peripheral : Bool) →
-    code_by c (map (instruction c) (low kind)) (map (instruction c) (high kind)) (map (instruction c) (enables_high peripheral)) ≡ map (instruction c) (standing_order kind peripheral)
-code_of_shape c NoSetup true = refl
-code_of_shape c NoSetup false = refl
-code_of_shape c _ true = refl
-code_of_shape c _ false = refl
+-- The parts give the spots of the boot, and those of the whole code.
+of_shape : (c : Counter) (kind : Kind) (peripheral : Bool) →
+    (boot_by c (map (instruction c) (low kind)) (map (instruction c) (high kind)) (map (instruction c) (enables_high peripheral)) ≡ map (instruction c) (boot_spots kind peripheral))
+    × (code_by c (map (instruction c) (low kind)) (map (instruction c) (high kind)) (map (instruction c) (enables_high peripheral)) ≡ map (instruction c) (standing_order kind peripheral))
+of_shape c NoSetup true = (refl, refl)
+of_shape c NoSetup false = (refl, refl)
+of_shape c _ true = (refl, refl)
+of_shape c _ false = (refl, refl)
 
 pub boot_is : (c : Counter) → boot_code c ≡ map (instruction c) (boot_spots (kind_of c.setup) (is_peripheral c.source))
-boot_is c = (λ i. boot_by c (low_is c c.setup i) (high_is c c.setup i) (enables_is c (is_peripheral c.source) i)) ∙ boot_of_shape c (kind_of c.setup) (is_peripheral c.source)
+boot_is c = (λ i. boot_by c (low_is c c.setup i) (high_is c c.setup i) (enables_is c (is_peripheral c.source) i)) ∙ (of_shape c (kind_of c.setup) (is_peripheral c.source)).0
 
 pub code_is : (c : Counter) → code_of c ≡ map (instruction c) (standing_order (kind_of c.setup) (is_peripheral c.source))
-code_is c = (λ i. code_by c (low_is c c.setup i) (high_is c c.setup i) (enables_is c (is_peripheral c.source) i)) ∙ code_of_shape c (kind_of c.setup) (is_peripheral c.source)
+code_is c = (λ i. code_by c (low_is c c.setup i) (high_is c c.setup i) (enables_is c (is_peripheral c.source) i)) ∙ (of_shape c (kind_of c.setup) (is_peripheral c.source)).1
 
 length_map : (c : Counter) (spots : List Spot) → length (map (instruction c) spots) ≡ length spots
 length_map c [] = refl
