@@ -211,33 +211,31 @@ module _ (c : Counter) (fine : IsCounter c) (target : Reg) (is_aimed : Aimed c.s
         keeps = (refl, it.2, state ∙ sym (same_shown Clears outer x h it.0 refl));
       }
 
-  pub next_load : (v : Values) (outer : Outer) (x : Chip) → Stays c target Loads x → v.state ≡ shown x → NextFrom (Begins 2) its_run v outer x
-  next_load v outer x h state =
-      let it = inside_next Loads outer x h refl in
+  -- Before the open, a step only goes on.
+  goes_on : (here : Place) (n : ℕ) (v : Values) (outer : Outer) (x : Chip) → Stays c target here x → v.state ≡ shown x → rests here ≡ false → Says here Passes
+      → control.puts_at c here (byte_at x.regs state_byte) ≡ []
+      → (Stays c target (next false here) (step_from outer x).after → v.state ≡ shown (step_from outer x).after → Sim c target (Begins n) its_run v (step_from outer x).after)
+      → NextFrom (Begins (suc n)) its_run v outer x
+  goes_on here n v outer x h state inside says silent kept =
+      let it = inside_next here outer x h inside in
       record {
         label = Passes;
-        phase = Begins 1;
+        phase = Begins n;
         stack = its_run;
         values = v;
-        goes = (1, omega arith, refl);
-        valued = (it.0.puts, refl);
-        told = told Loads outer x h it.0 (Begins 2) its_run Passes (λ e. absurd (let on = e in cc)) refl it.1 (record { returned = refl; opened = refl; committed = refl; cleared = refl });
-        keeps = (refl, it.2, state ∙ sym (same_shown Loads outer x h it.0 refl));
+        goes = (n, omega arith, refl);
+        valued = (it.0.puts ∙ silent, refl);
+        told = told here outer x h it.0 (Begins (suc n)) its_run Passes (λ e. absurd (let on = e in cc)) refl it.1 says;
+        keeps = kept it.2 (state ∙ sym (same_shown here outer x h it.0 says.opened));
       }
+
+  pub next_load : (v : Values) (outer : Outer) (x : Chip) → Stays c target Loads x → v.state ≡ shown x → NextFrom (Begins 2) its_run v outer x
+  next_load v outer x h state =
+      goes_on Loads 1 v outer x h state refl (record { returned = refl; opened = refl; committed = refl; cleared = refl }) refl (λ stays same. (refl, stays, same))
 
   pub next_add : (v : Values) (outer : Outer) (x : Chip) → Stays c target Adds x → v.state ≡ shown x → NextFrom (Begins 1) its_run v outer x
   next_add v outer x h state =
-      let it = inside_next Adds outer x h refl in
-      record {
-        label = Passes;
-        phase = Begins 0;
-        stack = its_run;
-        values = v;
-        goes = (0, omega arith, refl);
-        valued = (it.0.puts, refl);
-        told = told Adds outer x h it.0 (Begins 1) its_run Passes (λ e. absurd (let on = e in cc)) refl it.1 (record { returned = refl; opened = refl; committed = refl; cleared = refl });
-        keeps = (refl, it.2, state ∙ sym (same_shown Adds outer x h it.0 refl));
-      }
+      goes_on Adds 0 v outer x h state refl (record { returned = refl; opened = refl; committed = refl; cleared = refl }) refl (λ stays same. (refl, stays, same))
 
   abbrev after_open : Values → Chip → Values
   after_open v x = record { state = v.state; next = (reaction_from c (byte_at x.regs state_byte)).state; left = reaction_puts (program_of c) (reaction_from c (byte_at x.regs state_byte)).ports }
