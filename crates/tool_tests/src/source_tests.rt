@@ -71,6 +71,29 @@ fn tells_why_a_source_is_refused(rt: HostRuntime) {
 
 /// Sources at a limit and past it, and what is told of each.
 const LIMITS: &[(Made<'_>, &str)] = &[
+    ((&[(" ", 65_536)], 1, ""), "refused: form\n"),
+    ((&[(" ", 65_537)], 1, ""), "refused: big 65536\n"),
+    (
+        (
+            &[("let abcdefghijklmnopqrstuvwxyz01234 : u8 = 1;", 1)],
+            1,
+            "",
+        ),
+        "refused: form\n",
+    ),
+    (
+        (
+            &[("let abcdefghijklmnopqrstuvwxyz012345 : u8 = 1;", 1)],
+            1,
+            "",
+        ),
+        "refused: big 4\n",
+    ),
+    ((&[("let n : u16 = 65535w;", 1)], 1, ""), "refused: form\n"),
+    (
+        (&[("let n : u16 = 65536w;", 1)], 1, ""),
+        "refused: big 14\n",
+    ),
     (
         (&[("event A = INT priority 1;", 11)], 1, ""),
         "refused: form\n",
