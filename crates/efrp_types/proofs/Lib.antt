@@ -1,9 +1,9 @@
 pub mod AnswerLaws
 pub mod DeclFacts
 pub mod Examples
-pub mod FormedLaws
 pub mod GoodLaws
 pub mod ListFacts
 pub mod NodeLaws
+pub mod NumberLaws
 pub mod SourceFacts
 pub mod TypedLaws

@@ -1,8 +1,8 @@
 -- Where the names of an expression have no fault, its types have none exactly where it has a type; and so of definitions,
 -- outputs and programs.
-use Rattle.std.specs.Prelude.{◌≡◌, ℕ, ◌<◌, Bool, true, false, not, nat_lt, ◌&&◌, List, [], ◌∷◌, ◌++◌, Option, Some, None, option_and_then, refl, if◌then◌else◌}
-use Rattle.std.specs.List.{AllByRecursion, flat_map}
-use Rattle.std.proofs.Common.{sym, ap, ◌∙◌, arith}
+use Rattle.std.specs.Prelude.{◌≡◌, ℕ, ◌<◌, Bool, true, false, not, nat_lt, ◌&&◌, List, [], ◌∷◌, ◌++◌, length, Option, Some, None, option_and_then, refl, if◌then◌else◌}
+use Rattle.std.specs.List.{AllByRecursion, flat_map, list_all}
+use Rattle.std.proofs.Common.{sym, ap, ◌∙◌, arith, ltb-true}
 use Rattle.std.proofs.lemmas.Option.{none-some}
 use Rattle.std.proofs.lemmas.Bool.{and_parts, false≢true}
 use Rattle.frp_tree.specs.declared.syntax.Ty.{Ty}
@@ -18,10 +18,9 @@ use Rattle.efrp_types.specs.declared.faults.CheckFault.{CheckFault}
 use Rattle.efrp_types.specs.declared.faults.CheckFault.TheVariants.{LiteralRange, TypeOf, TableUse, UnknownName}
 use Rattle.efrp_types.specs.NameFaults.{fault_if, index_fault, use_faults, item_faults, expression_faults, behaviour_faults, clause_faults, each_after, is_event}
 use Rattle.efrp_types.specs.TypeFaults.{unlike, unary_faults, binary_faults, shift_faults, convert_faults, node_of_one, faults_in, faults_as, literal_faults, setup_byte_faults, behaviour_type_faults}
-use Rattle.efrp_types.specs.Laws.{HasEntries, NoFaultIsTyped, TypedHasNoFault}
+use Rattle.efrp_types.specs.Laws.{has_entries, NoFaultIsTyped, TypedHasNoFault}
 use Rattle.efrp_types.proofs.NodeLaws.{Agrees, some-fault, both-none, none-of-both, fault-false, false-no-fault, agrees-of-one, agrees-of-two, agrees-of-three, unary-agrees, no-unary, binary-agrees, no-binary-left, no-binary-right, shift-agrees, if-agrees, no-if-first, no-if-second, no-if-third, to-u8-agrees, to-u16-agrees, look-agrees, same-is, same-self}
 use Rattle.efrp_types.proofs.ListFacts.{none-after}
-use Rattle.std.specs.List.{list_all}
 
 module _ (p : ProgramTree) where
   literal-agrees : (owner : List ℕ) (o : Option Ty) → Agrees (elim o [ Some t ↦ [] | None ↦ LiteralRange owner ∷ [] ]) o
@@ -138,10 +137,10 @@ module _ (p : ProgramTree) where
   clauses-used owner cs none = none-after (clause_faults p owner) (λ c. use_faults p c.expr ≡ []) (clause-uses owner) [] cs none
 
   -- A definition.
-  behaviour-typed : (owner : List ℕ) (t : Ty) (b : BehaviourTree) → converts_in b ≡ true → HasEntries b → behaviour_faults p owner b ≡ [] → behaviour_type_faults p owner t b ≡ [] → IsTypedAs p t b
+  behaviour-typed : (owner : List ℕ) (t : Ty) (b : BehaviourTree) → converts_in b ≡ true → has_entries b ≡ true → behaviour_faults p owner b ≡ [] → behaviour_type_faults p owner t b ≡ [] → IsTypedAs p t b
   behaviour-typed owner t (Plain e) converts entries used none = typed-as owner t e converts used none
   behaviour-typed owner t (Input port) converts entries used none = same-is t U8 (not-false (same_type t U8) (fault-false (not (same_type t U8)) (TypeOf owner t U8) none))
-  behaviour-typed owner t (Table ls) converts entries used none = (entries, literals-typed owner t ls none)
+  behaviour-typed owner t (Table ls) converts entries used none = (ltb-true 0 (length ls) entries, literals-typed owner t ls none)
   behaviour-typed owner t (Reactive init cs) converts entries used none =
       let n = both-none (literal_faults p owner t init) _ none in
       (literal-typed owner t init n.0, clauses-typed owner t cs converts (clauses-used owner cs used) n.1)
@@ -153,7 +152,7 @@ module _ (p : ProgramTree) where
   typed-behaviour owner t (Reactive init cs) converts used its =
       none-of-both (literal_faults p owner t init) _ (typed-literal owner t init its.0) (typed-clauses owner t cs converts (clauses-used owner cs used) its.1)
 
-  decls-typed : (ds : List DeclTree) → AllByRecursion (λ (d : DeclTree). converts_in d.behaviour ≡ true) ds → AllByRecursion (λ (d : DeclTree). HasEntries d.behaviour) ds
+  decls-typed : (ds : List DeclTree) → AllByRecursion (λ (d : DeclTree). converts_in d.behaviour ≡ true) ds → AllByRecursion (λ (d : DeclTree). has_entries d.behaviour ≡ true) ds
       → flat_map (λ (d : DeclTree). behaviour_faults p d.name d.behaviour) ds ≡ [] → flat_map (λ (d : DeclTree). behaviour_type_faults p d.name d.ty d.behaviour) ds ≡ []
       → AllByRecursion (λ (d : DeclTree). IsTypedAs p d.ty d.behaviour) ds
   decls-typed [] converts entries used none = tt
@@ -198,14 +197,18 @@ module _ (p : ProgramTree) where
       let h = its.0 in
       none-of-both (setup_byte_faults s) (flat_map setup_byte_faults ss) (false-no-fault (nat_lt 255 s.byte) (LiteralRange s.register) (grind (arith, h))) (bytes-setups ss its.1)
 
+each-true : {A : Type 0} (test : A → Bool) (xs : List A) → list_all test xs ≡ true → AllByRecursion (λ x. test x ≡ true) xs
+each-true test [] all = tt
+each-true test (x ∷ xs) all = let k = and_parts (test x) (list_all test xs) all in (k.0, each-true test xs k.1)
+
 pub no-fault-is-typed : (p : ProgramTree) → NoFaultIsTyped p
 no-fault-is-typed p formed names none =
     let used = both-none (flat_map (λ (d : DeclTree). behaviour_faults p d.name d.behaviour) p.decls) _ (both-none (item_faults p) (expression_faults p) names).1 in
     let first = both-none (flat_map setup_byte_faults p.setups) _ none in
     let second = both-none (flat_map (λ (d : DeclTree). behaviour_type_faults p d.name d.ty d.behaviour) p.decls) _ first.1 in (
       record {
-        decls = decls-typed p p.decls formed.decl_conversions formed.entries used.0 second.0;
-        outputs = outputs-typed p p.outputs formed.output_conversions used.1 second.1;
+        decls = decls-typed p p.decls (each-true _ p.decls formed.written.decl_conversions) (each-true _ p.decls formed.entries) used.0 second.0;
+        outputs = outputs-typed p p.outputs (each-true _ p.outputs formed.written.output_conversions) used.1 second.1;
       },
       setups-bytes p p.setups first.0,
     )
@@ -214,4 +217,4 @@ pub typed-has-no-fault : (p : ProgramTree) → TypedHasNoFault p
 typed-has-no-fault p formed names its =
     let used = both-none (flat_map (λ (d : DeclTree). behaviour_faults p d.name d.behaviour) p.decls) _ (both-none (item_faults p) (expression_faults p) names).1 in
     none-of-both _ _ (bytes-setups p p.setups its.1)
-    (none-of-both _ _ (typed-decls p p.decls formed.decl_conversions used.0 its.0.decls) (typed-outputs p p.outputs formed.output_conversions used.1 its.0.outputs))
+    (none-of-both _ _ (typed-decls p p.decls (each-true _ p.decls formed.written.decl_conversions) used.0 its.0.decls) (typed-outputs p p.outputs (each-true _ p.outputs formed.written.output_conversions) used.1 its.0.outputs))

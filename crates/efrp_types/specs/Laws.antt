@@ -1,13 +1,13 @@
 -- What is true of every program that passes the checks.
-use Rattle.std.specs.Prelude.{◌≡◌, ℕ, ◌<◌, true, List, [], length, map, Some}
-use Rattle.std.specs.List.{AllByRecursion, IsDistinct}
+use Rattle.std.specs.Prelude.{◌≡◌, ℕ, ◌<◌, nat_lt, Bool, true, List, [], length, map, Some}
+use Rattle.std.specs.List.{AllByRecursion, IsDistinct, list_all}
 use Rattle.std.specs.Str.{bytes_eq}
 use Rattle.frp_tree.specs.declared.syntax.Event.{Event}
 use Rattle.frp_tree.specs.declared.syntax.Setup.{Setup}
 use Rattle.frp_tree.specs.Grammar.{Spells}
-use Rattle.frp_tree.specs.Limits.{converts_to_numbers, converts_in}
+use Rattle.frp_tree.specs.Limits.{CanBeWritten}
 use Rattle.frp_tree.specs.Priorities.{HasPriorities}
-use Rattle.frp_tree.specs.Tree.{BehaviourTree, Plain, Input, Table, Reactive, DeclTree, OutputTree, ProgramTree}
+use Rattle.frp_tree.specs.Tree.{BehaviourTree, Plain, Input, Table, Reactive, ProgramTree}
 use Rattle.pic_isa.specs.declared.sources.Source.{Source}
 use Rattle.pic_isa.specs.Sources.{source_name}
 use Rattle.efrp_meaning.specs.Types.{IsTyped}
@@ -18,17 +18,16 @@ use Rattle.efrp_types.specs.TypeFaults.{type_faults}
 use Rattle.efrp_types.specs.Passes.{Passes}
 
 -- A table has an entry.
-abbrev pub HasEntries : BehaviourTree → Type 0
-HasEntries (Plain e) = Unit {0}
-HasEntries (Input port) = Unit {0}
-HasEntries (Table entries) = 0 < length entries
-HasEntries (Reactive init clauses) = Unit {0}
+abbrev pub has_entries : BehaviourTree → Bool
+has_entries (Plain e) = true
+has_entries (Input port) = true
+has_entries (Table entries) = nat_lt 0 (length entries)
+has_entries (Reactive init clauses) = true
 
--- No conversion is to bool, and no table is empty. A tree may lack either.
+-- The tree keeps the limits of counts, no conversion is to bool, and no table is empty. A tree in memory may do otherwise.
 pub record IsWellFormed (p : ProgramTree) : Type 0 where
-  pub decl_conversions : AllByRecursion (λ (d : DeclTree). converts_in d.behaviour ≡ true) p.decls
-  pub output_conversions : AllByRecursion (λ (o : OutputTree). converts_to_numbers o.expr ≡ true) p.outputs
-  pub entries : AllByRecursion (λ (d : DeclTree). HasEntries d.behaviour) p.decls
+  pub written : CanBeWritten p
+  pub entries : list_all (λ d. has_entries d.behaviour) p.decls ≡ true
 
 -- What a text spells is well formed.
 abbrev pub SpelledIsWellFormed : ProgramTree → Type 0

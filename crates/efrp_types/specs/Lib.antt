@@ -1,6 +1,7 @@
 pub mod Answers
 pub mod Laws
 pub mod NameFaults
+pub mod Numbers
 pub mod Passes
 pub mod Reasons
 pub mod TypeFaults
