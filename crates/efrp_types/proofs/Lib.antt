@@ -1,6 +1,7 @@
 pub mod AnswerLaws
 pub mod DeclFacts
 pub mod Examples
+pub mod FormedLaws
 pub mod GoodLaws
 pub mod ListFacts
 pub mod NodeLaws

@@ -5,6 +5,7 @@ ghost use Rattle.efrp_types.specs.Laws.{
   NoFaultIsTyped,
   PassedReacts,
   PassedRuns,
+  SpelledIsWellFormed,
   TypedHasNoFault,
 };
 
@@ -32,4 +33,9 @@ pub fn passed_reacts()
 /// Each serial run of its events is defined and ends in a state.
 pub fn passed_runs()
     ensures { (p : ProgramTree) → PassedRuns p }
+{}
+
+/// In a program that a text spells no conversion is to bool, and no table is empty.
+pub fn spelled_is_well_formed()
+    ensures { (p : ProgramTree) → SpelledIsWellFormed p }
 {}

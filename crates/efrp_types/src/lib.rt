@@ -10,7 +10,8 @@ mod typed;
 
 pub use faults::CheckFault;
 pub use laws::{
-    no_fault_is_good, no_fault_is_typed, passed_reacts, passed_runs, typed_has_no_fault,
+    no_fault_is_good, no_fault_is_typed, passed_reacts, passed_runs, spelled_is_well_formed,
+    typed_has_no_fault,
 };
 pub use names::check_names;
 pub use typed::Typed;
