@@ -69,7 +69,7 @@ fn first_faults(rt: HostRuntime) -> Result<(), Fail> {
     ] {
         let program = parse(rt.alloc(), text.as_bytes())?;
         match check_names(rt.alloc(), &program) {
-            Ok(()) => assert!(rt; false, "{text}"),
+            Ok(_names) => assert!(rt; false, "{text}"),
             Err(fault) => assert!(rt; told(&fault) == (kind, name), "{text}"),
         }
     }

@@ -45,7 +45,7 @@ no-event-fault before e none =
       ranked = (grind (arith, low), grind (arith, high));
     }
 
-no-decl-fault : (events : List Event) (before : List DeclTree) (d : DeclTree) → decl_faults events before d ≡ [] → is_decl before d.name ≡ false
+pub no-decl-fault : (events : List Event) (before : List DeclTree) (d : DeclTree) → decl_faults events before d ≡ [] → is_decl before d.name ≡ false
 no-decl-fault events before d none =
     (or_parts (is_event events d.name) (is_decl before d.name) (fault-false (is_event events d.name || is_decl before d.name) (Twice d.name) (both-none _ (input_faults d.behaviour) none).0)).1
 

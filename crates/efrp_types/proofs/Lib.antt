@@ -1,9 +1,12 @@
 pub mod AnswerLaws
 pub mod DeclFacts
 pub mod Examples
+pub mod FitFacts
 pub mod FormedLaws
+pub mod KeyFacts
 pub mod GoodLaws
 pub mod ListFacts
+pub mod NodeFacts
 pub mod NodeLaws
 pub mod NumberLaws
 pub mod SourceFacts

@@ -1,5 +1,5 @@
 -- A source of a name, found and not found.
-use Rattle.std.specs.Prelude.{◌≡◌, ◌≢◌, ℕ, Bool, true, false, ◌||◌, List, [], ◌∷◌, Option, Some, None, IfSome, IfNone, refl}
+use Rattle.std.specs.Prelude.{◌≡◌, ◌≢◌, ℕ, Bool, true, false, ◌||◌, List, [], ◌∷◌, Option, Some, None, IsSome, IfSome, IfNone, refl}
 use Rattle.std.specs.List.{list_any}
 use Rattle.std.specs.Str.{bytes_eq}
 use Rattle.std.proofs.Common.{ap, ◌∙◌}
@@ -35,3 +35,7 @@ own-name Ccp2 = refl
 pub found-source : (name : List ℕ) (o : Option Source) → IfSome o (λ s. name ≡ source_name s) → IfNone o ((s : Source) → name ≢ source_name s) → is_source name ≡ is_some o
 found-source name None found none = none-named name none sources
 found-source name (Some s) found none = ap is_source found ∙ own-name s
+
+pub has-source : (name : List ℕ) (o : Option Source) → IfNone o ((s : Source) → name ≢ source_name s) → (s : Source) × (name ≡ source_name s) → IsSome o
+has-source name (Some s) none its = refl
+has-source name None none its = absurd (none its.0 its.1)

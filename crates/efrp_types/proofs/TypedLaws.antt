@@ -133,7 +133,7 @@ module _ (p : ProgramTree) where
       let k = and_parts _ _ converts in
       none-of-both (faults_as p owner t c.expr) _ (as-typed owner t c.expr k.0 used.0 its.0) (typed-clauses owner t cs k.1 used.1 its.1)
 
-  clauses-used : (owner : List ℕ) (cs : List ClauseTree) → each_after (clause_faults p owner) [] cs ≡ [] → AllByRecursion (λ (c : ClauseTree). use_faults p c.expr ≡ []) cs
+  pub clauses-used : (owner : List ℕ) (cs : List ClauseTree) → each_after (clause_faults p owner) [] cs ≡ [] → AllByRecursion (λ (c : ClauseTree). use_faults p c.expr ≡ []) cs
   clauses-used owner cs none = none-after (clause_faults p owner) (λ c. use_faults p c.expr ≡ []) (clause-uses owner) [] cs none
 
   -- A definition.
@@ -197,7 +197,7 @@ module _ (p : ProgramTree) where
       let h = its.0 in
       none-of-both (setup_byte_faults s) (flat_map setup_byte_faults ss) (false-no-fault (nat_lt 255 s.byte) (LiteralRange s.register) (grind (arith, h))) (bytes-setups ss its.1)
 
-each-true : {A : Type 0} (test : A → Bool) (xs : List A) → list_all test xs ≡ true → AllByRecursion (λ x. test x ≡ true) xs
+pub each-true : {A : Type 0} (test : A → Bool) (xs : List A) → list_all test xs ≡ true → AllByRecursion (λ x. test x ≡ true) xs
 each-true test [] all = tt
 each-true test (x ∷ xs) all = let k = and_parts (test x) (list_all test xs) all in (k.0, each-true test xs k.1)
 

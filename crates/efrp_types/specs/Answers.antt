@@ -1,5 +1,6 @@
 -- What the checks answer.
-use Rattle.std.specs.Prelude.{◌≡◌, List, [], ◌∷◌, ◌⊎◌, Result, Ok, Err}
+use Rattle.std.specs.Prelude.{◌≡◌, List, [], ◌∷◌, ◌⊎◌, Option, Some, Result, Ok, Err}
+use Rattle.frp_tree.specs.declared.syntax.Ty.{Ty}
 use Rattle.efrp_types.specs.declared.faults.CheckFault.{CheckFault}
 use Rattle.efrp_types.specs.declared.faults.CheckFault.TheVariants.{Memory}
 
@@ -11,3 +12,8 @@ IsFirst fault faults = (rest : List CheckFault) × (faults ≡ fault ∷ rest)
 abbrev pub Tells : {A : Type 0} → List CheckFault → Result A CheckFault → Type 0
 Tells faults (Ok x) = faults ≡ []
 Tells faults (Err fault) = IsFirst fault faults ⊎ (fault ≡ Memory)
+
+-- It is the type, exactly where there is none of these faults; or the first of them, or out of memory.
+abbrev pub TellsType : List CheckFault → Option Ty → Result Ty CheckFault → Type 0
+TellsType faults type (Ok t) = (faults ≡ []) × (type ≡ Some t)
+TellsType faults type (Err fault) = IsFirst fault faults ⊎ (fault ≡ Memory)

@@ -1,5 +1,5 @@
 -- What is true of every program that passes the checks.
-use Rattle.std.specs.Prelude.{◌≡◌, ℕ, ◌<◌, nat_lt, Bool, true, List, [], length, map, Some}
+use Rattle.std.specs.Prelude.{◌≡◌, ℕ, ◌<◌, nat_lt, Bool, true, List, [], length, map, slice_get, Some}
 use Rattle.std.specs.List.{AllByRecursion, IsDistinct, list_all}
 use Rattle.std.specs.Str.{bytes_eq}
 use Rattle.frp_tree.specs.declared.syntax.Event.{Event}
@@ -7,14 +7,16 @@ use Rattle.frp_tree.specs.declared.syntax.Setup.{Setup}
 use Rattle.frp_tree.specs.Grammar.{Spells}
 use Rattle.frp_tree.specs.Limits.{CanBeWritten}
 use Rattle.frp_tree.specs.Priorities.{HasPriorities}
-use Rattle.frp_tree.specs.Tree.{BehaviourTree, Plain, Input, Table, Reactive, ProgramTree}
+use Rattle.frp_tree.specs.Tree.{BehaviourTree, Plain, Input, Table, Reactive, DeclTree, ProgramTree}
 use Rattle.pic_isa.specs.declared.sources.Source.{Source}
 use Rattle.pic_isa.specs.Sources.{source_name}
+use Rattle.efrp_meaning.specs.Decls.{decl_named}
 use Rattle.efrp_meaning.specs.Types.{IsTyped}
 use Rattle.efrp_meaning.specs.States.{IsState, AreSamples, ArePortValues, IsOccurrence, NamesDiffer}
 use Rattle.efrp_meaning.specs.Meaning.{State, Samples, Occurrence, Reaction, SerialRun, react, serial}
 use Rattle.efrp_types.specs.NameFaults.{name_faults, is_event}
 use Rattle.efrp_types.specs.TypeFaults.{type_faults}
+use Rattle.efrp_types.specs.Numbers.{decl_number, event_number}
 use Rattle.efrp_types.specs.Passes.{Passes}
 
 -- A table has an entry.
@@ -79,3 +81,12 @@ abbrev pub PassedRuns : ProgramTree → Type 0
 PassedRuns p =
     (events : List Occurrence) → IsWellFormed p → Passes p → AllByRecursion (IsOccurrence p) events
     → (run : SerialRun) × (serial p events ≡ Some run) × IsState p run.state
+
+-- A number that `decl_number` gives is the place of the definition that the name stands for, and one that `event_number` gives
+-- that of an event of this name. Where names differ, what stands at a place has the place's number by its name.
+pub record NumbersAgree (p : ProgramTree) : Type 0 where
+  pub decls : (name : List ℕ) (n : ℕ) → decl_number p name ≡ Some n → slice_get p.decls n ≡ decl_named p.decls name
+  pub decls_within : (name : List ℕ) (n : ℕ) → decl_number p name ≡ Some n → n < length p.decls
+  pub events : (name : List ℕ) (n : ℕ) → event_number p name ≡ Some n → (e : Event) × (slice_get p.events n ≡ Some e) × (e.name ≡ name)
+  pub own_decls : NamesDiffer p → (n : ℕ) (d : DeclTree) → slice_get p.decls n ≡ Some d → decl_number p d.name ≡ Some n
+  pub own_events : EventsDiffer p → (n : ℕ) (e : Event) → slice_get p.events n ≡ Some e → event_number p e.name ≡ Some n

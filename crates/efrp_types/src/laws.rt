@@ -3,6 +3,7 @@ ghost use Rattle.frp_tree.specs.Tree.{ProgramTree};
 ghost use Rattle.efrp_types.specs.Laws.{
   NoFaultIsGood,
   NoFaultIsTyped,
+  NumbersAgree,
   PassedReacts,
   PassedRuns,
   SpelledIsWellFormed,
@@ -38,4 +39,10 @@ pub fn passed_runs()
 /// In a program that a text spells no conversion is to bool, and no table is empty.
 pub fn spelled_is_well_formed()
     ensures { (p : ProgramTree) → SpelledIsWellFormed p }
+{}
+
+/// The numbers of definitions and of events are their places, and where names differ each place is the number of what
+/// stands there.
+pub fn numbers_agree()
+    ensures { (p : ProgramTree) → NumbersAgree p }
 {}

@@ -5,13 +5,17 @@ mod faults;
 mod laws;
 mod lookups;
 mod names;
+mod nodes;
 mod reasons;
+mod table;
 mod typed;
+mod types;
 
 pub use faults::CheckFault;
 pub use laws::{
-    no_fault_is_good, no_fault_is_typed, passed_reacts, passed_runs, spelled_is_well_formed,
-    typed_has_no_fault,
+    no_fault_is_good, no_fault_is_typed, numbers_agree, passed_reacts, passed_runs,
+    spelled_is_well_formed, typed_has_no_fault,
 };
 pub use names::check_names;
-pub use typed::Typed;
+pub use table::Names;
+pub use typed::{Typed, check_types};

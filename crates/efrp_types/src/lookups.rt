@@ -9,7 +9,7 @@ ghost use Rattle.frp_tree.specs.declared.syntax.Event.{Event as AnyEvent};
 ghost use Rattle.frp_tree.specs.declared.syntax.Output.{Output as AnyOutput};
 ghost use Rattle.frp_tree.specs.Tree.{behaviour_of, decl_of};
 ghost use Rattle.pic_isa.specs.Names.{port_at, register_at};
-ghost use Rattle.efrp_meaning.specs.Decls.{decl_named, is_table};
+ghost use Rattle.efrp_meaning.specs.Decls.{decl_named, is_input, is_table};
 ghost use Rattle.efrp_types.specs.NameFaults.{is_event, is_none, is_source};
 
 use frp_tree::{Behaviour, Clause, Decl, Event, Output, Text};
@@ -96,6 +96,16 @@ pub fn is_table(behaviour: &Behaviour) -> bool
 {
     match behaviour {
         Behaviour::Table(_) => true,
+        _ => false,
+    }
+}
+
+/// Whether it is an input.
+pub fn is_input(behaviour: &Behaviour) -> bool
+    ensures { result ≡ is_input (behaviour_of behaviour.now) }
+{
+    match behaviour {
+        Behaviour::Input(_) => true,
         _ => false,
     }
 }

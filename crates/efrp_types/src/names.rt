@@ -1,5 +1,5 @@
 // The check of names: a walk over all items, and a second one over the expressions.
-ghost use Rattle.std.specs.Prelude.{[], map};
+ghost use Rattle.std.specs.Prelude.{[], map, IfOk};
 ghost use Rattle.frp_tree.specs.declared.syntax.Clause.{Clause as AnyClause};
 ghost use Rattle.frp_tree.specs.declared.syntax.Decl.{Decl as AnyDecl};
 ghost use Rattle.frp_tree.specs.declared.syntax.Output.{Output as AnyOutput};
@@ -7,6 +7,7 @@ ghost use Rattle.frp_tree.specs.declared.syntax.Setup.{Setup as AnySetup};
 ghost use Rattle.frp_tree.specs.Tree.{behaviour_of, clause_of, decl_of, output_of, program_tree_of, tree_of};
 ghost use Rattle.efrp_types.specs.Answers.{Tells};
 ghost use Rattle.efrp_types.specs.NameFaults.{behaviour_faults, clause_faults, decl_faults, each_after, event_faults, expression_faults, index_fault, input_faults, item_faults, name_fault, name_faults, output_faults, port_faults, setup_faults, use_faults};
+ghost use Rattle.efrp_types.specs.Numbers.{AreNamesOf};
 
 use crate::faults::CheckFault;
 use crate::lookups::{
@@ -14,6 +15,7 @@ use crate::lookups::{
     is_taken, is_used,
 };
 use crate::reasons::{Reason, refuse_clause_if, refuse_if};
+use crate::table::Names;
 use frp_tree::{Behaviour, Clause, Decl, Event, Expr, Output, Program, Setup, Text};
 use std::alloc::Global;
 
@@ -247,15 +249,17 @@ fn expressions(alloc: Global, p: &Program) -> Result<(), CheckFault>
     written(alloc, p, p.outputs.as_slice())
 }
 
-/// Whether the names of a program have no fault; else the first that is met. Items come first: each event is tested
-/// for `Twice`, `UnknownSource`, `SourceTwice` and `BadPriority`, each setup for `BadRegister`, each definition for
+/// The names of a program, where they have no fault; else the first fault that is met. Items come first: each event is
+/// tested for `Twice`, `UnknownSource`, `SourceTwice` and `BadPriority`, each setup for `BadRegister`, each definition for
 /// `Twice` and an input for `BadRegister`, each output for `BadRegister` and `OutputTwice`. Then come expressions:
 /// each clause is tested for `UnknownEvent` and `ClauseTwice`, and each name, from left to right, for `UnknownName`
 /// and `TableUse`. `Memory` may be told in place of another fault or of none. The time is at most the square of the
 /// program's length.
-pub fn check_names(alloc: Global, p: &Program) -> Result<(), CheckFault>
-    ensures { Tells (name_faults (program_tree_of p.now)) result }
+pub fn check_names(alloc: Global, p: &Program) -> Result<Names, CheckFault>
+    ensures faults { Tells (name_faults (program_tree_of p.now)) result }
+    ensures names { IfOk result (λ names. AreNamesOf names (program_tree_of p.now)) }
 {
     items(alloc, p)?;
-    expressions(alloc, p)
+    expressions(alloc, p)?;
+    Ok(Names::of_program(alloc, p)?)
 }

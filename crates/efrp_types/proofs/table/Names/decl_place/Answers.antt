@@ -1,0 +1,14 @@
+use Rattle.std.specs.Prelude.{position}
+use Rattle.std.specs.Str.{bytes_eq}
+use Rattle.std.specs.String.{string_bytes}
+use Rattle.std.proofs.Common.{sym, ap, ◌∙◌}
+use Rattle.efrp_types.specs.Numbers.{NameLists}
+use Rattle.efrp_types.proofs.NumberLaws.{position_mapped}
+use Rattle.efrp_types.proofs.table.Names.decl_place.Goals as goal
+
+pub returns : goal.returns
+returns c =
+    c.get_index_of.ensures.index
+    ∙ ap (λ q. position (λ k. bytes_eq q (string_bytes k)) c.self.inside.decls.keys) c.as_str.ensures
+    ∙ sym (position_mapped (bytes_eq c.args.name.now) string_bytes c.self.inside.decls.keys)
+    ∙ ap (λ (names : NameLists). position (bytes_eq c.args.name.now) names.decls) c.self.view_is
