@@ -1,0 +1,2 @@
+-- Lists of acts, their codes and what they do, computed.
+mod Sums
