@@ -1,2 +1,4 @@
 pub mod Acts
 pub mod Codes
+pub mod Laws
+pub mod Standing

@@ -6,5 +6,10 @@
 #![tactic(auto)]
 
 mod acts;
+mod laws;
 
 pub use acts::{Act, ConstOp, FileOp, Name, Places};
+pub use laws::{
+    ends_anywhere, instructions_fit, leaves, none_set, run_in_parts, run_keeps, run_like,
+    skips_well, words_at_most,
+};
