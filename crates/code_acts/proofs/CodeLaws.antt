@@ -1,5 +1,5 @@
 -- The code of acts: its words, its fields, and what stands behind a skip.
-use Rattle.std.proofs.Common.{◌≡◌, ℕ, suc, ◌+◌, ◌/◌, ◌%◌, ◌<◌, ◌≤◌, Bool, true, false, ◌==◌, if◌then◌else◌, Option, Some, None, List, [], ◌∷◌, length, map, ap, ◌∙◌, sym, refl, subst, arith}
+use Rattle.std.proofs.Common.{◌≡◌, ℕ, suc, ◌+◌, ◌/◌, ◌%◌, ◌<◌, ◌≤◌, Bool, true, false, ◌==◌, if◌then◌else◌, Option, Some, None, List, [], ◌∷◌, ◌++◌, length, map, ap, ◌∙◌, sym, refl, subst, arith}
 use Rattle.std.proofs.lemmas.Bool.{ltb-true}
 use Rattle.std.specs.List.{AllByRecursion}
 use Rattle.pic_isa.specs.declared.instructions.Dest.{Dest}
@@ -252,3 +252,31 @@ skips_well uses writes place last false bank (a ∷ more) sounds in_bank =
     let rest = code place then_in more in
     let next = skips_well uses writes place (latest last (name_of a)) (may_skip a) then_in more parts.rest (in_bank_next place last bank (name_of a) in_bank) in
     settings_well bank (far place (name_of a)) (with_own (instr_of place a) rest) (own_well place false a rest parts.word next)
+
+-- Settings and an act's instruction stand before the rest of the code.
+bit-append : (b : ℕ) (known : Option Bool) (v : Bool) (xs ys : List Instr) → bit_setting b known v (xs ++ ys) ≡ bit_setting b known v xs ++ ys
+bit-append b None v xs ys = refl
+bit-append b (Some true) true xs ys = refl
+bit-append b (Some true) false xs ys = refl
+bit-append b (Some false) true xs ys = refl
+bit-append b (Some false) false xs ys = refl
+
+pub settings-append : (bank : Bank) (target : Option ℕ) (xs ys : List Instr) → settings bank target (xs ++ ys) ≡ settings bank target xs ++ ys
+settings-append bank None xs ys = refl
+settings-append bank (Some k) xs ys =
+    let low = k % 2 == 1 in
+    let high = k / 2 == 1 in
+    ap (bit_setting 5 (low_bit bank) low) (bit-append 6 (high_bit bank) high xs ys)
+    ∙ bit-append 5 (low_bit bank) low (bit_setting 6 (high_bit bank) high xs) ys
+
+own-append : (o : Option Instr) (rest : List Instr) → with_own o rest ≡ with_own o [] ++ rest
+own-append None rest = refl
+own-append (Some i) rest = refl
+
+pub code-cons : (place : ℕ → ℕ) (bank : Bank) (a : Act) (more : List Act)
+    → code place bank (a ∷ more)
+    ≡ settings bank (far place (name_of a)) (with_own (instr_of place a) []) ++ code place (moved bank (far place (name_of a))) more
+code-cons place bank a more =
+    let target = far place (name_of a) in
+    let rest = code place (moved bank target) more in
+    ap (settings bank target) (own-append (instr_of place a) rest) ∙ settings-append bank target (with_own (instr_of place a) []) rest

@@ -1,5 +1,5 @@
 -- The code of acts for bytes at any addresses, with bank settings; which lists of acts are sound; and how many words they take.
-use Rattle.std.specs.Prelude.{ℕ, ◌+◌, ◌/◌, ◌%◌, Bool, true, false, not, nat_lt, ◌==◌, ◌&&◌, ◌||◌, if◌then◌else◌, Option, Some, None, List, [], ◌∷◌}
+use Rattle.std.specs.Prelude.{ℕ, ◌+◌, ◌/◌, ◌%◌, ◌<◌, Bool, true, false, not, nat_lt, ◌==◌, ◌&&◌, ◌||◌, if◌then◌else◌, Option, Some, None, List, [], ◌∷◌}
 use Rattle.pic_isa.specs.declared.instructions.Dest.{Dest}
 use Rattle.pic_isa.specs.declared.instructions.Instr.{Instr}
 use Rattle.pic_isa.specs.declared.instructions.Instr.TheVariants.{Addwf, Andwf, Clrf, Comf, Incfsz, Iorwf, Movf, Movwf, Rlf, Rrf, Subwf, Swapf, Xorwf, Bcf, Bsf, Btfsc, Btfss, Addlw, Andlw, Movlw, Xorlw}
@@ -25,6 +25,11 @@ place_of places n =
     else if n == 16 then places.b
     else if n == 17 then places.b_high
     else places.c
+
+-- Each address of these is below 512.
+abbrev pub PlacesFit : Places → Type 0
+PlacesFit places =
+    (places.to < 512) × (places.to_high < 512) × (places.a < 512) × (places.a_high < 512) × (places.b < 512) × (places.b_high < 512) × (places.c < 512)
 
 -- The name is that of an operand byte, which needs no bank setting.
 abbrev pub is_operand : ℕ → Bool

@@ -6,9 +6,11 @@
 #![tactic(auto)]
 
 mod acts;
+mod emitting;
 mod laws;
 
 pub use acts::{Act, ConstOp, FileOp, Name, Places};
+pub use emitting::{Coded, instructions};
 pub use laws::{
     ends_anywhere, instructions_fit, leaves, none_set, run_in_parts, run_keeps, run_like,
     skips_well, words_at_most,
