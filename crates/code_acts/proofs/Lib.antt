@@ -2,6 +2,8 @@ pub mod CodeLaws
 pub mod EndLaws
 pub mod Examples
 pub mod GoFacts
+pub mod PartLaws
+pub mod PlaceLaws
 pub mod RunLaws
 pub mod SettingFacts
 pub mod StepFacts

@@ -1,18 +1,24 @@
 -- What the laws of `laws.rt` promise of every list of acts.
-use Rattle.std.specs.Prelude.{◌≡◌, ℕ, ◌==◌, ◌&&◌, ◌||◌, Bool, true, false, Some, None, List, [], ◌∷◌, map}
+use Rattle.std.specs.Prelude.{◌≡◌, ℕ, ◌+◌, ◌%◌, ◌<◌, ◌≤◌, ◌==◌, ◌&&◌, ◌||◌, ◌⊎◌, Bool, true, false, Some, None, List, [], ◌∷◌, map, length}
 use Rattle.std.specs.List.{AllByRecursion}
 use Rattle.pic_isa.specs.declared.instructions.Instr.{Instr}
 use Rattle.pic_isa.specs.declared.instructions.Instr.TheVariants.{Bcf, Bsf}
 use Rattle.pic_isa.specs.Instructions.{FieldsFit}
+use Rattle.pic_regs.specs.Map.{Plain, reg_at}
+use Rattle.pic_machine.specs.Chip.{Chip}
 use Rattle.pic_machine.specs.Exec.{field}
 use Rattle.code_steps.specs.declared.banks.Bank.{Bank}
 use Rattle.code_steps.specs.declared.banks.Bank.TheVariants.{Known}
+use Rattle.code_steps.specs.Steps.{Comes}
+use Rattle.code_steps.specs.Between.{Others}
+use Rattle.code_steps.specs.Ends.{Ended}
 use Rattle.op_code.specs.declared.items.Item.TheVariants.{Ins}
 use Rattle.op_code.specs.Items.{is_skip, ends_skipping}
+use Rattle.op_code.specs.Lines.{Stands}
 use Rattle.code_acts.specs.declared.acts.Act.{Act}
 use Rattle.code_acts.specs.Acts.{State, name_of, run}
-use Rattle.code_acts.specs.Codes.{far, code, bank_after, sound}
-use Rattle.code_acts.specs.Standing.{Placed, view, Like, EndsAnywhere, Leaves}
+use Rattle.code_acts.specs.Codes.{is_operand, far, code, bank_after, sound}
+use Rattle.code_acts.specs.Standing.{StandFrom, Placed, view, Like, AtStart, OwnIn, EndsAnywhere, Leaves}
 
 -- Sound acts, with no skip before them and no bank chosen.
 abbrev pub IsSound : (uses writes : ℕ → Bool) → List Act → Type 0
@@ -28,6 +34,31 @@ abbrev pub CodeLeaves : (uses writes : ℕ → Bool) → (place : ℕ → ℕ) �
 CodeLeaves uses writes place bank acts =
     Placed uses writes place → IsSound uses writes acts
     → Leaves uses writes place bank (bank_after place bank acts) (code place bank acts) (λ c e. Like uses (run acts (view place c)) (view place e))
+
+-- Each byte that may be written is one that is used.
+abbrev pub IsUsed : (uses writes : ℕ → Bool) → Type 0
+IsUsed uses writes = (n : ℕ) → writes n ≡ true → uses n ≡ true
+
+-- It keeps PCLATH, also under whole runs of others.
+abbrev pub KeepsPclath : (uses writes : ℕ → Bool) → (place : ℕ → ℕ) → Bank → List Act → (program : ℕ → ℕ) → Chip → Type 0
+KeepsPclath uses writes place bank acts program c =
+    let instrs = code place bank acts in
+    Placed uses writes place → IsUsed uses writes → IsSound uses writes acts → AtStart program bank instrs c
+    → Comes program Others (OwnIn writes place instrs c)
+    (λ e. Ended ((c.pc + length instrs) % 8192) (bank_after place bank acts) e × (e.regs.pclath ≡ c.regs.pclath))
+    (length instrs) c
+
+-- An address is that of a plain byte, and of no operand byte.
+pub record IsFar (address : ℕ) : Type 0 where
+  pub below : address < 512
+  pub plain : reg_at address ≡ Plain address
+  pub outside : (address < 0x74) ⊎ (0x80 ≤ address)
+
+-- The names but for those of operand bytes lie where they can.
+pub record OthersPlaced (uses writes : ℕ → Bool) (place : ℕ → ℕ) : Type 0 where
+  pub used : IsUsed uses writes
+  pub far : (n : ℕ) → is_operand n ≡ false → uses n ≡ true → IsFar (place n)
+  pub apart : (n m : ℕ) → is_operand n ≡ false → is_operand m ≡ false → writes n ≡ true → uses m ≡ true → place n ≡ place m → n ≡ m
 
 -- An instruction sets or clears a bank bit, RP0 or RP1.
 abbrev pub sets_bank : Instr → Bool
@@ -67,3 +98,7 @@ RunKeeps uses writes acts s n = IsSound uses writes acts → writes n ≡ false 
 
 abbrev pub RunLike : (uses writes : ℕ → Bool) → List Act → (s t : State) → Type 0
 RunLike uses writes acts s t = IsSound uses writes acts → Like uses s t → s.skip ≡ t.skip → Like uses (run acts s) (run acts t)
+
+-- Instructions stand where they stand as items.
+abbrev pub ItemsStand : Bool → (program marks : ℕ → ℕ) → (p q : ℕ) → List Instr → Type 0
+ItemsStand paged program marks p q instrs = Stands paged program marks p (map Ins instrs) q → StandFrom program p instrs
