@@ -1,0 +1,7 @@
+pub mod ChoiceFacts
+pub mod ComparisonFacts
+pub mod MoveFacts
+pub mod ShiftFacts
+pub mod SumFacts
+pub mod TemplateFacts
+pub mod TemplateLaws

@@ -1,0 +1,7 @@
+pub mod Choices
+pub mod Comparisons
+pub mod Laws
+pub mod Moves
+pub mod Shifts
+pub mod Sums
+pub mod Templates
