@@ -9,8 +9,8 @@ use Rattle.pic_regs.specs.Map.{Pclath, Plain, reg_in}
 use Rattle.pic_machine.specs.Exec.{field}
 use Rattle.code_steps.specs.declared.banks.Bank.{Bank}
 use Rattle.code_steps.specs.declared.banks.Bank.TheVariants.{Known}
-use Rattle.op_code.specs.declared.items.Item.TheVariants.{Ins}
-use Rattle.op_code.specs.Items.{ends_skipping}
+use Rattle.code_items.specs.declared.items.Item.TheVariants.{Ins}
+use Rattle.code_items.specs.Items.{ends_skipping}
 use Rattle.code_acts.specs.declared.acts.FileOp.{FileOp}
 use Rattle.code_acts.specs.declared.acts.FileOp.TheVariants.{Add, And, Com, IncSkip, Ior, Mov, Left, Right, Sub, Swap, Xor}
 use Rattle.code_acts.specs.declared.acts.ConstOp.TheVariants.{AddK, AndK, MovK, XorK}

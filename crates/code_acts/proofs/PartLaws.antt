@@ -9,9 +9,9 @@ use Rattle.code_steps.specs.Steps.{next, Comes}
 use Rattle.code_steps.specs.Ends.{Own, Ended}
 use Rattle.code_steps.proofs.ComesLaws.{comes_wider, comes_then}
 use Rattle.code_steps.proofs.OwnLaws.{own_wider}
-use Rattle.op_code.specs.declared.items.Item.TheVariants.{Ins}
-use Rattle.op_code.specs.Items.{is_skip}
-use Rattle.op_code.specs.Lines.{Does, Placed as LinesPlaced, Stands, ahead, lines, lines_of}
+use Rattle.code_items.specs.declared.items.Item.TheVariants.{Ins}
+use Rattle.code_items.specs.Items.{is_skip}
+use Rattle.code_items.specs.Lines.{Does, Placed as LinesPlaced, Stands, ahead, lines, lines_of}
 use Rattle.code_acts.specs.Standing.{StandFrom, AtStart}
 
 -- Instructions that stand as items stand.

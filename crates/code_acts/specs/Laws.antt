@@ -12,9 +12,9 @@ use Rattle.code_steps.specs.declared.banks.Bank.TheVariants.{Known}
 use Rattle.code_steps.specs.Steps.{Comes}
 use Rattle.code_steps.specs.Between.{Others}
 use Rattle.code_steps.specs.Ends.{Ended}
-use Rattle.op_code.specs.declared.items.Item.TheVariants.{Ins}
-use Rattle.op_code.specs.Items.{is_skip, ends_skipping}
-use Rattle.op_code.specs.Lines.{Stands}
+use Rattle.code_items.specs.declared.items.Item.TheVariants.{Ins}
+use Rattle.code_items.specs.Items.{is_skip, ends_skipping}
+use Rattle.code_items.specs.Lines.{Stands}
 use Rattle.code_acts.specs.declared.acts.Act.{Act}
 use Rattle.code_acts.specs.Acts.{State, name_of, run}
 use Rattle.code_acts.specs.Codes.{is_operand, far, code, bank_after, sound}

@@ -4,10 +4,10 @@ use Rattle.std.specs.List.{AllByRecursion}
 use Rattle.std.proofs.lemmas.Bool.{ne_eqb}
 use Rattle.std.proofs.lemmas.List.{length-replicate}
 use Rattle.pic_isa.specs.declared.instructions.Instr.TheVariants.{Btfsc, Btfss, Nop}
-use Rattle.op_code.specs.declared.items.Item.{Item}
-use Rattle.op_code.specs.declared.items.Item.TheVariants.{Ins, Mark, Jump}
-use Rattle.op_code.specs.Items.{ItemFits, OnceEach, marks_it, times}
-use Rattle.op_code.proofs.ItemLaws.{fit-append, times-append}
+use Rattle.code_items.specs.declared.items.Item.{Item}
+use Rattle.code_items.specs.declared.items.Item.TheVariants.{Ins, Mark, Jump}
+use Rattle.code_items.specs.Items.{ItemFits, OnceEach, marks_it, times}
+use Rattle.code_items.proofs.ItemLaws.{fit-append, times-append}
 use Rattle.code_tests.specs.FourPages.{four_pages}
 
 abbrev nops : ℕ → List Item

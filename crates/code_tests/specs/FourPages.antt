@@ -1,8 +1,8 @@
 -- Code on four pages, as the test builds it.
 use Rattle.std.specs.Prelude.{ℕ, List, [], ◌∷◌, ◌++◌, replicate}
 use Rattle.pic_isa.specs.declared.instructions.Instr.TheVariants.{Btfsc, Btfss, Nop}
-use Rattle.op_code.specs.declared.items.Item.{Item}
-use Rattle.op_code.specs.declared.items.Item.TheVariants.{Ins, Mark, Jump}
+use Rattle.code_items.specs.declared.items.Item.{Item}
+use Rattle.code_items.specs.declared.items.Item.TheVariants.{Ins, Mark, Jump}
 
 -- Four pieces with NOPs between them.
 abbrev pub four_pages : ℕ → List Item

@@ -2,8 +2,8 @@
 
 ghost use Rattle.std.specs.Prelude.{◌≡◌, IfOk};
 
+use code_items::{Code, Item};
 use frp_tree::List;
-use op_code::{Code, Item};
 use pic_isa::Instr;
 use std::alloc::{AllocError, Global};
 use std::test::Fail;

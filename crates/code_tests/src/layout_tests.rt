@@ -4,9 +4,9 @@ ghost use Rattle.std.specs.Prelude.{◌≡◌, ◌<◌, ◌^◌, IfOk, replicate
 ghost use Rattle.hex_file.specs.Written.{RisesFrom};
 ghost use Rattle.code_tests.specs.FourPages.{four_pages};
 
+use code_items::{Code, Item};
 use frp_tree::List;
 use hex_file::Image;
-use op_code::{Code, Item};
 use page_layout::{CodeFault, Laid, layout};
 use pic_isa::Instr;
 use pic_isa::registers::INTCON;

@@ -5,10 +5,10 @@ use Rattle.pic_isa.specs.declared.instructions.Dest.TheVariants.{W}
 use Rattle.pic_isa.specs.declared.instructions.Instr.{Instr}
 use Rattle.pic_isa.specs.declared.instructions.Instr.TheVariants.{Addwf, Goto}
 use Rattle.code_steps.specs.Jumps.{high_page, low_page, setting}
-use Rattle.op_code.specs.declared.items.Item.{Item}
-use Rattle.op_code.specs.declared.items.Item.TheVariants.{Ins}
-use Rattle.op_code.specs.Items.{skips, words_of_item, words_in}
-use Rattle.op_code.specs.Lines.{Line, Here, Does, PageLow, PageHigh, Goes, ahead, lines, lines_of}
+use Rattle.code_items.specs.declared.items.Item.{Item}
+use Rattle.code_items.specs.declared.items.Item.TheVariants.{Ins}
+use Rattle.code_items.specs.Items.{skips, words_of_item, words_in}
+use Rattle.code_items.specs.Lines.{Line, Here, Does, PageLow, PageHigh, Goes, ahead, lines, lines_of}
 use Rattle.page_layout.specs.Emitted.{instructions_of}
 use Rattle.page_layout.specs.Marks.{places_for, marks_end}
 

@@ -5,10 +5,10 @@ use Rattle.std.proofs.lemmas.List.{get_or-set_same, get_or-set_other}
 use Rattle.std.proofs.Math.ListN.{length-set}
 use Rattle.pic_isa.specs.declared.instructions.Instr.{Instr}
 use Rattle.pic_regs.specs.Bytes.{updated}
-use Rattle.op_code.specs.declared.items.Item.{Item}
-use Rattle.op_code.specs.declared.items.Item.TheVariants.{Ins, Mark, Jump}
-use Rattle.op_code.specs.Items.{is_skip, marks_it, times, OnceEach, words_of_item}
-use Rattle.op_code.specs.Lines.{Line, Here, Does, ahead, lines_of, lines}
+use Rattle.code_items.specs.declared.items.Item.{Item}
+use Rattle.code_items.specs.declared.items.Item.TheVariants.{Ins, Mark, Jump}
+use Rattle.code_items.specs.Items.{is_skip, marks_it, times, OnceEach, words_of_item}
+use Rattle.code_items.specs.Lines.{Line, Here, Does, ahead, lines_of, lines}
 use Rattle.page_layout.specs.Emitted.{places}
 use Rattle.page_layout.specs.Marks.{places_for, marks_after, with_place, noted}
 

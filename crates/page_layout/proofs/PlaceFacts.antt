@@ -11,11 +11,11 @@ use Rattle.hex_file.specs.Written.{RisesFrom}
 use Rattle.pic_machine.specs.Run.{word_at}
 use Rattle.code_steps.specs.Steps.{next, Is}
 use Rattle.code_steps.specs.Jumps.{high_page, low_page, setting}
-use Rattle.op_code.specs.declared.items.Item.{Item}
-use Rattle.op_code.specs.declared.items.Item.TheVariants.{Ins, Mark, Jump}
-use Rattle.op_code.specs.Items.{is_skip, skips, ItemFits}
-use Rattle.op_code.specs.Lines.{Line, Here, Does, PageLow, PageHigh, Goes, settings, ahead, lines_of, lines, Placed}
-use Rattle.op_code.proofs.LineLaws.{line_words}
+use Rattle.code_items.specs.declared.items.Item.{Item}
+use Rattle.code_items.specs.declared.items.Item.TheVariants.{Ins, Mark, Jump}
+use Rattle.code_items.specs.Items.{is_skip, skips, ItemFits}
+use Rattle.code_items.specs.Lines.{Line, Here, Does, PageLow, PageHigh, Goes, settings, ahead, lines_of, lines, Placed}
+use Rattle.code_items.proofs.LineLaws.{line_words}
 use Rattle.page_layout.specs.Emitted.{instructions_of, words_of}
 use Rattle.page_layout.specs.Words.{FollowFrom}
 use Rattle.page_layout.proofs.MarkFacts.{AtMarks}

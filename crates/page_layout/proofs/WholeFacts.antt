@@ -5,10 +5,10 @@ use Rattle.pic_isa.specs.declared.instructions.Instr.{Instr}
 use Rattle.pic_isa.specs.Instructions.{FieldsFit}
 use Rattle.hex_file.specs.Written.{RisesFrom}
 use Rattle.pic_machine.specs.Run.{word_at}
-use Rattle.op_code.specs.declared.items.Item.{Item}
-use Rattle.op_code.specs.Items.{ItemFits, OnceEach, times, words_in}
-use Rattle.op_code.specs.Lines.{Line, lines, Placed, Stands}
-use Rattle.op_code.proofs.LineLaws.{line_words, words-lines}
+use Rattle.code_items.specs.declared.items.Item.{Item}
+use Rattle.code_items.specs.Items.{ItemFits, OnceEach, times, words_in}
+use Rattle.code_items.specs.Lines.{Line, lines, Placed, Stands}
+use Rattle.code_items.proofs.LineLaws.{line_words, words-lines}
 use Rattle.page_layout.specs.Emitted.{instructions_of, words_of}
 use Rattle.page_layout.specs.Marks.{marks_after, no_place}
 use Rattle.page_layout.proofs.MarkFacts.{AtMarks, owed_words, none_owed, at_marks, after-none, after-below}

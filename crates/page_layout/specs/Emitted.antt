@@ -5,7 +5,7 @@ use Rattle.pic_isa.specs.declared.instructions.Instr.TheVariants.{Goto}
 use Rattle.pic_isa.specs.Instructions.{word_of}
 use Rattle.hex_file.specs.declared.images.Word.{Word}
 use Rattle.code_steps.specs.Jumps.{high_page, low_page, setting}
-use Rattle.op_code.specs.Lines.{Line, Here, Does, PageLow, PageHigh, Goes}
+use Rattle.code_items.specs.Lines.{Line, Here, Does, PageLow, PageHigh, Goes}
 
 -- The address of each mark by a list, and 0 past its end.
 abbrev pub places : List ℕ → ℕ → ℕ

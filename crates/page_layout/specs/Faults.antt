@@ -1,7 +1,7 @@
 -- Why code has no words.
 use Rattle.std.specs.Prelude.{◌≡◌, ◌<◌, List}
-use Rattle.op_code.specs.declared.items.Item.{Item}
-use Rattle.op_code.specs.Items.{has_pages, words_in}
+use Rattle.code_items.specs.declared.items.Item.{Item}
+use Rattle.code_items.specs.Items.{has_pages, words_in}
 use Rattle.page_layout.specs.declared.laid.CodeFault.{CodeFault}
 use Rattle.page_layout.specs.declared.laid.CodeFault.TheVariants.{Code, Memory}
 

@@ -1,9 +1,9 @@
 -- Addresses by marks, as they are found from the first item on.
 use Rattle.std.specs.Prelude.{ℕ, ◌+◌, ◌%◌, max, Bool, List, [], ◌∷◌, slice_set}
 use Rattle.pic_regs.specs.Bytes.{updated}
-use Rattle.op_code.specs.declared.items.Item.{Item}
-use Rattle.op_code.specs.declared.items.Item.TheVariants.{Ins, Mark, Jump}
-use Rattle.op_code.specs.Items.{words_of_item}
+use Rattle.code_items.specs.declared.items.Item.{Item}
+use Rattle.code_items.specs.declared.items.Item.TheVariants.{Ins, Mark, Jump}
+use Rattle.code_items.specs.Items.{words_of_item}
 
 -- The places that a list by marks needs for an item, and for items: one more than the greatest mark.
 abbrev pub places_for : Item → ℕ

@@ -1,10 +1,10 @@
 // The words of items, and the places that a list by marks has.
 
 ghost use Rattle.std.specs.Prelude.{◌≡◌, ◌<◌, ◌≤◌, ◌^◌, length};
-ghost use Rattle.op_code.specs.Items.{words_in, words_of_item};
+ghost use Rattle.code_items.specs.Items.{words_in, words_of_item};
 ghost use Rattle.page_layout.specs.Marks.{marks_end, places_for};
 
-use op_code::Item;
+use code_items::Item;
 
 /// The words of a jump with page settings: two settings and a GOTO.
 const JUMP_WORDS: u16 = 3;

@@ -4,13 +4,13 @@ ghost use Rattle.std.specs.Prelude.{◌≡◌, ◌+◌, ◌++◌, ◌∷◌, [],
 ghost use Rattle.std.specs.List.{AllByRecursion};
 ghost use Rattle.pic_isa.specs.Instructions.{FieldsFit};
 ghost use Rattle.code_steps.specs.Jumps.{low_page, high_page, setting};
-ghost use Rattle.op_code.specs.Items.{is_skip, skips};
-ghost use Rattle.op_code.specs.Lines.{ahead, lines, lines_of};
+ghost use Rattle.code_items.specs.Items.{is_skip, skips};
+ghost use Rattle.code_items.specs.Lines.{ahead, lines, lines_of};
 ghost use Rattle.page_layout.specs.Emitted.{instructions_of, page_instructions, places, words_of};
 
+use code_items::Item;
 use frp_tree::List;
 use hex_file::Word;
-use op_code::Item;
 use pic_isa::registers::PCLATH;
 use pic_isa::{Instr, encode};
 use std::alloc::{AllocError, Global};

@@ -4,8 +4,8 @@ ghost use Rattle.std.specs.Prelude.{◌≡◌, ℕ, ◌≤◌, ◌<◌, ◌^◌,
 ghost use Rattle.std.specs.List.{AllByRecursion};
 ghost use Rattle.hex_file.specs.Written.{RisesFrom};
 ghost use Rattle.pic_machine.specs.Run.{word_at};
-ghost use Rattle.op_code.specs.Items.{ItemFits, OnceEach, has_pages, times, words_in};
-ghost use Rattle.op_code.specs.Lines.{Stands};
+ghost use Rattle.code_items.specs.Items.{ItemFits, OnceEach, has_pages, times, words_in};
+ghost use Rattle.code_items.specs.Lines.{Stands};
 ghost use Rattle.page_layout.specs.Emitted.{places};
 ghost use Rattle.page_layout.specs.Faults.{IsFaultOf};
 ghost use Rattle.page_layout.specs.Marks.{marks_end};
@@ -14,9 +14,9 @@ ghost use Rattle.page_layout.specs.Words.{FollowFrom};
 use crate::counts::count_words;
 use crate::emitted::{instructions, words};
 use crate::mark_places::mark_places;
+use code_items::{Code, Item};
 use frp_tree::List;
 use hex_file::Word;
-use op_code::{Code, Item};
 use std::alloc::{AllocError, Global};
 
 /// The words of a code, from address 0 on, and the address of each mark at its place, 0 at a number that is no mark.

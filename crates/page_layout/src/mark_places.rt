@@ -1,11 +1,11 @@
 // The address of each mark.
 
 ghost use Rattle.std.specs.Prelude.{◌≡◌, ℕ, ◌+◌, ◌≤◌, ◌%◌, IfOk, get_or, length, replicate};
-ghost use Rattle.op_code.specs.Items.{words_in};
+ghost use Rattle.code_items.specs.Items.{words_in};
 ghost use Rattle.page_layout.specs.Marks.{marks_end, marks_after, no_place, noted, places_for};
 
 use crate::counts::{count_places, item_words};
-use op_code::Item;
+use code_items::Item;
 use std::alloc::{AllocError, Global};
 
 fn zeros(alloc: Global, number: usize) -> Result<Vec<u16>, AllocError>

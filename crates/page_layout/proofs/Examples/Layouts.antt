@@ -2,9 +2,9 @@
 use Rattle.std.proofs.Common.{◌≡◌, ℕ, true, false, List, [], ◌∷◌, refl}
 use Rattle.pic_isa.specs.declared.instructions.Instr.TheVariants.{Btfsc, Nop}
 use Rattle.hex_file.specs.declared.images.Word.{Word}
-use Rattle.op_code.specs.declared.items.Item.{Item}
-use Rattle.op_code.specs.declared.items.Item.TheVariants.{Ins, Mark, Jump}
-use Rattle.op_code.specs.Lines.{lines}
+use Rattle.code_items.specs.declared.items.Item.{Item}
+use Rattle.code_items.specs.declared.items.Item.TheVariants.{Ins, Mark, Jump}
+use Rattle.code_items.specs.Lines.{lines}
 use Rattle.page_layout.specs.Emitted.{instructions_of, places, words_of}
 use Rattle.page_layout.specs.Marks.{marks_after, marks_end, no_place}
 

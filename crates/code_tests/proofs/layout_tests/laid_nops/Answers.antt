@@ -1,5 +1,5 @@
 use Rattle.std.proofs.Common.{sym, subst, ◌∙◌}
-use Rattle.op_code.specs.Items.{OnceEach}
+use Rattle.code_items.specs.Items.{OnceEach}
 use Rattle.code_tests.proofs.FourPagesFacts.{nops-once}
 use Rattle.code_tests.proofs.layout_tests.laid_nops.Goals as goal
 

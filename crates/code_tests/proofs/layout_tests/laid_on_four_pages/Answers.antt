@@ -1,6 +1,6 @@
 use Rattle.std.proofs.Common.{sym, subst}
 use Rattle.std.specs.List.{AllByRecursion}
-use Rattle.op_code.specs.Items.{ItemFits, OnceEach}
+use Rattle.code_items.specs.Items.{ItemFits, OnceEach}
 use Rattle.code_tests.proofs.FourPagesFacts.{pages-fit, pages-once}
 use Rattle.code_tests.proofs.layout_tests.laid_on_four_pages.Goals as goal
 

@@ -1,5 +1,5 @@
 use Rattle.std.proofs.Common.{◌≡◌, ◌+◌, ◌*◌, ◌≤◌, drop}
-use Rattle.op_code.specs.Items.{words_in}
+use Rattle.code_items.specs.Items.{words_in}
 use Rattle.page_layout.proofs.counts.count_words.Given as goal
 
 -- the words so far and those of the items that are left are all

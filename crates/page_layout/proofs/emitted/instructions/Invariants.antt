@@ -1,5 +1,5 @@
 use Rattle.std.proofs.Common.{◌≡◌, ◌++◌, false, drop}
-use Rattle.op_code.specs.Lines.{lines}
+use Rattle.code_items.specs.Lines.{lines}
 use Rattle.page_layout.specs.Emitted.{instructions_of, places}
 use Rattle.page_layout.proofs.emitted.instructions.Given as goal
 

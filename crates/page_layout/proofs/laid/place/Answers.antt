@@ -4,7 +4,7 @@ use Rattle.pic_isa.specs.Instructions.{FieldsFit}
 use Rattle.hex_file.specs.declared.images.Word.{Word}
 use Rattle.hex_file.specs.Written.{RisesFrom}
 use Rattle.pic_machine.specs.Run.{word_at}
-use Rattle.op_code.specs.Lines.{Stands}
+use Rattle.code_items.specs.Lines.{Stands}
 use Rattle.page_layout.specs.Emitted.{places, words_of}
 use Rattle.page_layout.specs.Words.{FollowFrom}
 use Rattle.page_layout.proofs.WholeFacts.{code_of, code-length, code-fit, words-number, words-rise, words-stand, marks-absent}

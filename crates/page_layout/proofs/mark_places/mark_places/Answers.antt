@@ -1,6 +1,6 @@
 use Rattle.std.proofs.Common.{◌≡◌, ◌+◌, ◌%◌, ◌≤◌, List, drop, length, ap, ◌∙◌, sym, arith}
-use Rattle.op_code.specs.declared.items.Item.{Item}
-use Rattle.op_code.specs.Items.{words_of_item}
+use Rattle.code_items.specs.declared.items.Item.{Item}
+use Rattle.code_items.specs.Items.{words_of_item}
 use Rattle.page_layout.specs.Emitted.{places}
 use Rattle.page_layout.specs.Marks.{marks_after, places_for, with_place}
 use Rattle.page_layout.proofs.DropFacts.{item_at, first-rest, words-first, end-first}

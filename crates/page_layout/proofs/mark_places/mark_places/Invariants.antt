@@ -1,5 +1,5 @@
 use Rattle.std.proofs.Common.{◌≡◌, ℕ, ◌+◌, ◌≤◌, drop, length}
-use Rattle.op_code.specs.Items.{words_in}
+use Rattle.code_items.specs.Items.{words_in}
 use Rattle.page_layout.specs.Emitted.{places}
 use Rattle.page_layout.specs.Marks.{marks_after, marks_end, no_place}
 use Rattle.page_layout.proofs.mark_places.mark_places.Given as goal

@@ -1,5 +1,0 @@
-use Rattle.op_code.proofs.PieceLaws.{piece-stands}
-use Rattle.op_code.proofs.laws.each_piece_stands.Goals as goal
-
-pub returns : goal.returns
-returns c = λ paged program marks pieces q k none inside stands. piece-stands paged program marks pieces q k none inside stands

@@ -1,5 +1,0 @@
-use Rattle.op_code.proofs.JumpLaws.{jump_arrives_at}
-use Rattle.op_code.proofs.laws.jump_arrives.Goals as goal
-
-pub returns : goal.returns
-returns c = λ paged program marks piece p q m items x. jump_arrives_at paged program marks piece p q m items x

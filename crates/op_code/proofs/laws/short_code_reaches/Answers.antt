@@ -1,5 +1,0 @@
-use Rattle.op_code.proofs.StandLaws.{short-reaches}
-use Rattle.op_code.proofs.laws.short_code_reaches.Goals as goal
-
-pub returns : goal.returns
-returns c = λ program marks q m xs ys x short ends word stands high low. short-reaches program marks q m xs ys x short ends word stands high low

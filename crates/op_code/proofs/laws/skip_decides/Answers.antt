@@ -1,5 +1,0 @@
-use Rattle.op_code.proofs.JumpLaws.{skip_decides_at}
-use Rattle.op_code.proofs.laws.skip_decides.Goals as goal
-
-pub returns : goal.returns
-returns c = λ paged program marks piece p q m i test items x. skip_decides_at paged program marks piece p q m i test items x

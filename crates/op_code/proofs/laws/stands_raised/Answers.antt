@@ -1,5 +1,0 @@
-use Rattle.op_code.proofs.StandLaws.{stands-raised}
-use Rattle.op_code.proofs.laws.stands_raised.Goals as goal
-
-pub returns : goal.returns
-returns c = λ paged program marks up p q items stands. stands-raised paged program marks up p q items stands
