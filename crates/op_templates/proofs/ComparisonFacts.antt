@@ -24,7 +24,8 @@ use Rattle.code_acts.specs.Acts.{State, number, agrees, run}
 use Rattle.op_templates.specs.Comparisons.{told_by, differ, a_not_above, b_not_above, compare_template}
 use Rattle.code_acts.specs.Codes.{sound, words}
 use Rattle.op_templates.specs.Laws.{IsTemplate, uses, writes}
-use Rattle.op_templates.specs.Templates.{template_of, a_pair, b_pair, number_type}
+use Rattle.byte_ops.specs.Weights.{number_type}
+use Rattle.op_templates.specs.Templates.{template_of, a_pair, b_pair}
 use Rattle.op_templates.proofs.MoveFacts.{num-either}
 use Rattle.op_templates.proofs.TemplateFacts.{at_rest, Gives, template-from}
 

@@ -14,7 +14,8 @@ use Rattle.code_acts.specs.Acts.{run}
 use Rattle.code_acts.specs.Codes.{sound, words}
 use Rattle.op_templates.specs.Laws.{IsTemplate, uses, writes}
 use Rattle.op_templates.specs.Shifts.{byte_shift, shift_template}
-use Rattle.op_templates.specs.Templates.{template_of, number_type}
+use Rattle.byte_ops.specs.Weights.{number_type}
+use Rattle.op_templates.specs.Templates.{template_of}
 use Rattle.op_templates.proofs.TemplateFacts.{at_rest, Gives, template-from}
 
 -- A bit under a mask's bit, as a number.

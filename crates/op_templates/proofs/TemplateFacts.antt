@@ -12,7 +12,8 @@ use Rattle.code_acts.specs.declared.acts.Act.{Act}
 use Rattle.code_acts.specs.declared.acts.Act.TheVariants.{File, SkipBit, SkipCarry, SkipZero}
 use Rattle.code_acts.specs.Acts.{State, Into, Nowhere, IntoW, IntoName, into, name_of, byte_of, result, skips, mem_after, step_in, run}
 use Rattle.code_acts.specs.Codes.{is_operand, writes_allowed, allowed, latest, may_skip, sound, words}
-use Rattle.op_templates.specs.Templates.{named, most_words, weight_of}
+use Rattle.byte_ops.specs.Weights.{weight_of}
+use Rattle.op_templates.specs.Templates.{named, most_words}
 use Rattle.op_templates.specs.Laws.{IsTemplate, values, values_after, uses, writes}
 
 -- A byte that may not be written stays.

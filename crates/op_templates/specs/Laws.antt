@@ -9,7 +9,8 @@ use Rattle.pic_regs.specs.Bytes.{num}
 use Rattle.code_acts.specs.declared.acts.Act.{Act}
 use Rattle.code_acts.specs.Acts.{State, run}
 use Rattle.code_acts.specs.Codes.{is_operand, sound, words}
-use Rattle.op_templates.specs.Templates.{has_template, template_of, named, most_words, weight_of}
+use Rattle.byte_ops.specs.Weights.{weight_of}
+use Rattle.op_templates.specs.Templates.{has_template, template_of, named, most_words}
 
 -- The numbers of the named bytes, by the numbers of their names; and those after acts, with the operand bytes as they were, since
 -- these may change.

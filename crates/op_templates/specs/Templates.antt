@@ -1,9 +1,5 @@
 -- The template of each operation but products, the names that an operation has in it, and the words that it may take.
-use Rattle.std.specs.Prelude.{ℕ, Bool, true, false, List, [], Option, Some, if◌then◌else◌}
-use Rattle.frp_tree.specs.declared.syntax.Ty.{Ty}
-use Rattle.frp_tree.specs.declared.syntax.Ty.TheVariants as ty
-use Rattle.frp_tree.specs.declared.syntax.UnOp.TheVariants as unary
-use Rattle.efrp_meaning.specs.Bounds.{by_width, unary_weight, binary_weight}
+use Rattle.std.specs.Prelude.{ℕ, Bool, true, false, List, [], if◌then◌else◌}
 use Rattle.byte_ops.specs.declared.operations.Op.{Op}
 use Rattle.byte_ops.specs.declared.operations.Op.TheVariants.{Set, Copy, Com, Not, Bits, Sum, Compare, Logic, Choose, Shift, Product}
 use Rattle.byte_ops.specs.declared.operations.Pair.{Pair}
@@ -68,20 +64,3 @@ most_words (Logic f to a b) = 9
 most_words (Choose wide to c a b) = if wide then 27 else 14
 most_words (Shift side wide n to a) = if wide then 21 else 10
 most_words (Product f wide to a b) = 0
-
--- The weight of an operation, as in a program's bounds: the words that it may take.
-abbrev pub number_type : (wide : Bool) → Option Ty
-number_type wide = Some (if wide then ty.U16 else ty.U8)
-
-abbrev pub weight_of : Op → ℕ
-weight_of (Set to k) = 4
-weight_of (Copy to a) = 6
-weight_of (Com to a) = unary_weight unary.Com (number_type false)
-weight_of (Not to a) = unary_weight unary.Not (Some ty.Bool)
-weight_of (Bits f to a b) = binary_weight f (number_type false)
-weight_of (Sum f wide to a b) = binary_weight f (number_type wide)
-weight_of (Compare f wide to a b) = binary_weight f (number_type wide)
-weight_of (Logic f to a b) = binary_weight f (Some ty.Bool)
-weight_of (Choose wide to c a b) = by_width (number_type wide) 24 40
-weight_of (Shift side wide n to a) = by_width (number_type wide) 32 80
-weight_of (Product f wide to a b) = binary_weight f (number_type wide)
