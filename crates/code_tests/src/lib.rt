@@ -1,6 +1,6 @@
-//! Tests of `byte_ops`, `bank_alloc`, `code_items`, `page_layout` and `code_acts` by their public calls: operations on bytes, places
-//! for bytes, marks and jumps that are raised, code that fills program memory, code on four pages that the simulator runs, and a
-//! sum over three banks.
+//! Tests of `byte_ops`, `bank_alloc`, `code_items`, `page_layout`, `code_acts` and `op_templates` by their public calls: operations on
+//! bytes, places for bytes, marks and jumps that are raised, code that fills program memory, code on four pages that the simulator
+//! runs, a sum over three banks, and a template of each kind.
 #![tactic(auto)]
 
 #[cfg(test)]
@@ -13,3 +13,5 @@ mod code_tests;
 mod layout_tests;
 #[cfg(test)]
 mod place_tests;
+#[cfg(test)]
+mod template_tests;

@@ -18,10 +18,10 @@ use Rattle.pic_regs.proofs.BitLaws.{zero-bits}
 use Rattle.pic_machine.specs.Results.{either, one_more}
 use Rattle.code_acts.specs.declared.acts.Name.{Name}
 use Rattle.code_acts.specs.declared.acts.Name.TheVariants.{Operand0, A, AHigh, B, BHigh}
-use Rattle.code_acts.specs.declared.acts.FileOp.TheVariants.{IncSkip, Mov, Sub}
+use Rattle.code_acts.specs.declared.acts.FileOp.TheVariants.{Mov, Sub}
 use Rattle.code_acts.specs.declared.acts.Act.TheVariants.{File, Store, SkipCarry, SkipZero}
 use Rattle.code_acts.specs.Acts.{State, number, agrees, run}
-use Rattle.op_templates.specs.Comparisons.{told_by, differ, a_not_above, b_not_above, compare_template}
+use Rattle.op_templates.specs.Comparisons.{high_not_above, told_by, differ, a_not_above, b_not_above, compare_template}
 use Rattle.code_acts.specs.Codes.{sound, words}
 use Rattle.op_templates.specs.Laws.{IsTemplate, uses, writes}
 use Rattle.byte_ops.specs.Weights.{number_type}
@@ -120,12 +120,11 @@ tells_behind v true w z mem = carry_tells v w false z mem
 tells_behind v false w z mem =
     let s : State = run (File Sub Operand0 W ∷ []) (at_rest w false z mem) in carry_tells v s.w s.carry s.zero s.mem
 
-high_tells : (v : Bool) (n : Name) (c z : Bool) (mem : ℕ → Byte)
-    → num ((run (SkipCarry true ∷ File IncSkip n W ∷ File Sub Operand0 W ∷ told_by (SkipCarry v)) (at_rest (mem (number n)) c z mem)).mem 12)
-    ≡ truth_number (agrees v (high_carry c (mem (number n)) (mem 0)))
-high_tells v n true z mem =
+high_tells : (v : Bool) (n : Name) (w : Byte) (c z : Bool) (mem : ℕ → Byte)
+    → num ((run (high_not_above n (told_by (SkipCarry v))) (at_rest w c z mem)).mem 12) ≡ truth_number (agrees v (high_carry c (mem (number n)) (mem 0)))
+high_tells v n w true z mem =
     let s : State = run (File Sub Operand0 W ∷ []) (at_rest (mem (number n)) true z mem) in carry_tells v s.w s.carry s.zero s.mem
-high_tells v n false z mem = tells_behind v (is_zero (one_more (mem (number n)))) (one_more (mem (number n))) z mem
+high_tells v n w false z mem = tells_behind v (is_zero (one_more (mem (number n)))) (one_more (mem (number n))) (is_zero (mem (number n))) mem
 
 -- It says whether one number isn't above the other.
 next_above : (y x next : ℕ) → y < 256 → x < 256 → next ≡ (y + 1) % 256 → (if next == 0 then false else nat_le next x) ≡ nat_lt y x
@@ -169,15 +168,15 @@ module _ (w : Byte) (c z : Bool) (mem : ℕ → Byte) where
       → num ((run (b_not_above wide (told_by (SkipCarry v))) (at_rest w c z mem)).mem 12) ≡ truth_number (agrees v (nat_le (b_number wide) (a_number wide)))
   b_order v false = let s : State = run (b_not_above false []) (at_rest w c z mem) in carry_tells v s.w s.carry s.zero s.mem
   b_order v true =
-      let s : State = run (File Mov AHigh W ∷ Store Operand0 ∷ File Mov B W ∷ File Sub A W ∷ File Mov BHigh W ∷ []) (at_rest w c z mem) in
-      high_tells v BHigh s.carry s.zero s.mem ∙ ap (λ k. truth_number (agrees v k)) (same_order (mem 16) (mem 17) (mem 14) (mem 15))
+      let s : State = run (File Mov AHigh W ∷ Store Operand0 ∷ File Mov B W ∷ File Sub A W ∷ []) (at_rest w c z mem) in
+      high_tells v BHigh s.w s.carry s.zero s.mem ∙ ap (λ k. truth_number (agrees v k)) (same_order (mem 16) (mem 17) (mem 14) (mem 15))
 
   a_order : (v wide : Bool)
       → num ((run (a_not_above wide (told_by (SkipCarry v))) (at_rest w c z mem)).mem 12) ≡ truth_number (agrees v (nat_le (a_number wide) (b_number wide)))
   a_order v false = let s : State = run (a_not_above false []) (at_rest w c z mem) in carry_tells v s.w s.carry s.zero s.mem
   a_order v true =
-      let s : State = run (File Mov BHigh W ∷ Store Operand0 ∷ File Mov A W ∷ File Sub B W ∷ File Mov AHigh W ∷ []) (at_rest w c z mem) in
-      high_tells v AHigh s.carry s.zero s.mem ∙ ap (λ k. truth_number (agrees v k)) (same_order (mem 14) (mem 15) (mem 16) (mem 17))
+      let s : State = run (File Mov BHigh W ∷ Store Operand0 ∷ File Mov A W ∷ File Sub B W ∷ []) (at_rest w c z mem) in
+      high_tells v AHigh s.w s.carry s.zero s.mem ∙ ap (λ k. truth_number (agrees v k)) (same_order (mem 14) (mem 15) (mem 16) (mem 17))
 
   equality : (v wide : Bool)
       → num ((run (differ wide (told_by (SkipZero v))) (at_rest w c z mem)).mem 12) ≡ truth_number (agrees v (a_number wide == b_number wide))

@@ -1,5 +1,6 @@
 pub mod ChoiceFacts
 pub mod ComparisonFacts
+pub mod Examples
 pub mod MoveFacts
 pub mod ShiftFacts
 pub mod SumFacts

@@ -18,7 +18,8 @@ use Rattle.op_templates.proofs.TemplateFacts.{template-from}
 
 pub set-template : (to k : ℕ) → k < 256 → IsTemplate (op.Set to k) (template_of (op.Set to k))
 set-template to k small =
-    template-from (op.Set to k) (template_of (op.Set to k)) (λ w c z mem h. omega (arith, num-bits k, small)) (and_from (nat_lt k 256 && true) true (and_from (nat_lt k 256) true (lt-ltb k 256 small) refl) refl) (lit≤ tt, lit≤ tt)
+    let fits : (nat_lt k 256 && true && true) ≡ true = and_from (nat_lt k 256 && true) true (and_from (nat_lt k 256) true (lt-ltb k 256 small) refl) refl in
+    template-from (op.Set to k) (template_of (op.Set to k)) (λ w c z mem h. omega (arith, num-bits k, small)) fits (lit≤ tt, lit≤ tt)
 
 pub copy-template : (to a : ℕ) → IsTemplate (op.Copy to a) (template_of (op.Copy to a))
 copy-template to a = template-from (op.Copy to a) (template_of (op.Copy to a)) (λ w c z mem h. refl) refl (lit≤ tt, lit≤ tt)

@@ -1,6 +1,5 @@
--- What holds of every sound list of acts: which bytes it keeps, that no skip is pending at its end; and a template from what its
--- result is.
-use Rattle.std.proofs.Common.{◌≡◌, ℕ, ◌≤◌, ◌==◌, Bool, true, false, if◌then◌else◌, Option, None, List, [], ◌∷◌, ap, ◌∙◌, sym, subst, refl, ◌||◌}
+-- No skip is pending at the end of a sound list of acts; and a template from what its result is.
+use Rattle.std.proofs.Common.{◌≡◌, ℕ, ◌≤◌, ◌==◌, Bool, true, false, if◌then◌else◌, Option, None, List, [], ◌∷◌, ap, sym, subst, refl, ◌||◌}
 use Rattle.std.proofs.lemmas.Bool.{ne_eqb, and_parts}
 use Rattle.std.specs.List.{list_any}
 use Rattle.byte_ops.specs.declared.operations.Op.{Op}
@@ -10,31 +9,12 @@ use Rattle.pic_regs.specs.Bytes.{Byte, num}
 use Rattle.code_acts.specs.declared.acts.FileOp.TheVariants.{IncSkip}
 use Rattle.code_acts.specs.declared.acts.Act.{Act}
 use Rattle.code_acts.specs.declared.acts.Act.TheVariants.{File, SkipBit, SkipCarry, SkipZero}
-use Rattle.code_acts.specs.Acts.{State, Into, Nowhere, IntoW, IntoName, into, name_of, byte_of, result, skips, mem_after, step_in, run}
-use Rattle.code_acts.specs.Codes.{is_operand, writes_allowed, allowed, latest, may_skip, sound, words}
+use Rattle.code_acts.specs.Acts.{State, name_of, byte_of, result, skips, step_in, run}
+use Rattle.code_acts.specs.Codes.{is_operand, latest, may_skip, sound, words}
+use Rattle.code_acts.proofs.RunLaws.{run_keeps}
 use Rattle.byte_ops.specs.Weights.{weight_of}
 use Rattle.op_templates.specs.Templates.{named, most_words}
 use Rattle.op_templates.specs.Laws.{IsTemplate, values, values_after, uses, writes}
-
--- A byte that may not be written stays.
-module _ (used written : ℕ → Bool) (n : ℕ) (kept : written n ≡ false) where
-  into-keeps : (to : Into) (byte : Byte) (mem : ℕ → Byte) → writes_allowed written to ≡ true → mem_after to byte mem n ≡ mem n
-  into-keeps Nowhere byte mem h = refl
-  into-keeps IntoW byte mem h = refl
-  into-keeps (IntoName m) byte mem h =
-      let other : (n == m) ≡ false = ne_eqb n m (λ e. let here : written n ≡ true = subst (λ k. written k ≡ true) (sym e) h in cc) in
-      ap (λ b. if b then byte else mem n) other
-
-  step-keeps : (pending : Bool) (a : Act) (s : State) → allowed used written a ≡ true → (step_in pending a s).mem n ≡ s.mem n
-  step-keeps true a s h = refl
-  step-keeps false a s h =
-      into-keeps (into a) (result a s.w s.carry (byte_of (name_of a) s.mem)).byte s.mem (and_parts _ _ (and_parts _ _ h).0).1
-
-  run-keeps : (last : Option ℕ) (behind : Bool) (acts : List Act) (s : State) → sound used written last behind acts ≡ true → (run acts s).mem n ≡ s.mem n
-  run-keeps last behind [] s h = refl
-  run-keeps last behind (a ∷ more) s h =
-      let parts = and_parts _ _ h in
-      run-keeps (latest last (name_of a)) (may_skip a) more (step_in s.skip a s) parts.1 ∙ step-keeps s.skip a s (and_parts _ _ parts.0).0
 
 -- No skip is pending at the end.
 never-skips : (a : Act) (c z : Bool) (x r : Byte) → may_skip a ≡ false → skips a c z x r ≡ false
@@ -91,4 +71,4 @@ template-from op acts gives is_sound within = record {
     kept s n not_written =
         first_or_kept (is_operand n) (values s n) (values (run acts s) n) (λ far.
         let out : writes op n ≡ false = subst (λ b. (b || list_any (λ m. m == n) (written_by (named op))) ≡ false) (sym far) (not_among (written_by (named op)) n not_written) in
-        ap num (run-keeps (uses op) (writes op) n out None false acts s is_sound))
+        ap num (run_keeps (uses op) (writes op) None false acts s n is_sound out))

@@ -24,9 +24,11 @@ differ true rest = File Mov B W ∷ File Sub A W ∷ Store Operand0 ∷ File Mov
 abbrev pub not_above : (y x : Name) → (rest : List Act) → List Act
 not_above y x rest = File Mov y W ∷ File Sub x W ∷ rest
 
+abbrev pub high_not_above : (y_high : Name) → (rest : List Act) → List Act
+high_not_above y_high rest = File Mov y_high W ∷ SkipCarry true ∷ File IncSkip y_high W ∷ File Sub Operand0 W ∷ rest
+
 abbrev pub not_above_wide : (y y_high x x_high : Name) → (rest : List Act) → List Act
-not_above_wide y y_high x x_high rest =
-    File Mov x_high W ∷ Store Operand0 ∷ File Mov y W ∷ File Sub x W ∷ File Mov y_high W ∷ SkipCarry true ∷ File IncSkip y_high W ∷ File Sub Operand0 W ∷ rest
+not_above_wide y y_high x x_high rest = File Mov x_high W ∷ Store Operand0 ∷ File Mov y W ∷ File Sub x W ∷ high_not_above y_high rest
 
 abbrev pub b_not_above : (wide : Bool) → (rest : List Act) → List Act
 b_not_above false rest = not_above B A rest

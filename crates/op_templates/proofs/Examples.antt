@@ -1,0 +1,2 @@
+-- The words of templates, computed.
+mod Words
