@@ -1,0 +1,199 @@
+-- Definitions by name and by number, and the names that a program whose names have no fault depends on.
+use Rattle.std.specs.Prelude.{◌≡◌, ◌≢◌, ℕ, ◌+◌, ◌<◌, ◌≤◌, suc, zero, get_or, ◌⊎◌, Bool, true, false, not, nat_lt, ◌||◌, ◌&&◌, List, [], ◌∷◌, ◌++◌, length, map, filter, find, slice_get, position, Option, Some, None, cond, refl, if◌then◌else◌}
+use Rattle.std.specs.List.{AllByRecursion, IsDistinct, flat_map, list_any, position_or_len}
+use Rattle.std.specs.Str.{bytes_eq}
+use Rattle.std.proofs.Common.{sym, ap, subst, ◌∙◌, arith}
+use Rattle.std.proofs.Math.Numerals.{one-add}
+use Rattle.std.proofs.lemmas.Bool.{false≢true, lt-ltb, ltb-true}
+use Rattle.std.proofs.lemmas.Option.{none-some, slice_get_cases, slice_get_within}
+use Rattle.std.proofs.lemmas.List.Folds.{list_any-append}
+use Rattle.std.proofs.lemmas.Slice.Eq.{bytes_eq-Decides}
+use mathlib.Core.Logic.{inl, inr}
+use Rattle.frp_tree.specs.Tree.{Tree, Const, Name, Unary, Binary, Shift, If, Convert, Look, ClauseTree, BehaviourTree, Plain, Input, Table, Reactive, DeclTree, ProgramTree}
+use Rattle.efrp_meaning.specs.Decls.{decl_named, is_table}
+use Rattle.efrp_meaning.specs.Needs.{names_in, clause_for}
+use Rattle.efrp_meaning.specs.Meaning.{Rule, Always, Sampled, Tabled, Now, Later, Stays, rule_on, clause_rule}
+use Rattle.efrp_meaning.specs.Causal.{dependencies, dependencies_by, DependsOn}
+use Rattle.efrp_meaning.specs.States.{NamesDiffer}
+use Rattle.efrp_types.specs.declared.faults.CheckFault.{CheckFault}
+use Rattle.efrp_types.specs.declared.faults.CheckFault.TheVariants.{TableUse, UnknownName}
+use Rattle.efrp_types.specs.NameFaults.{fault_if, name_fault, index_fault, use_faults, clause_faults, behaviour_faults, each_after, item_faults, expression_faults, name_faults, is_event}
+use Rattle.efrp_types.specs.Numbers.{decl_number}
+use Rattle.efrp_types.proofs.NodeLaws.{both-none, some-fault}
+
+-- The name of a definition, as a test.
+abbrev pub is_named : List ℕ → DeclTree → Bool
+is_named x d = bytes_eq x d.name
+
+pub same_bytes : (x : List ℕ) → bytes_eq x x ≡ true
+same_bytes x = (bytes_eq-Decides x x).1 refl
+
+-- What stands at the first place of a name is the definition of that name.
+named-at : (ds : List DeclTree) (x : List ℕ) → slice_get ds (position_or_len (is_named x) ds) ≡ decl_named ds x
+named-at [] x = refl
+named-at (d ∷ ds) x = by_name (bytes_eq x d.name) (named-at ds x)
+  where
+    by_name : (b : Bool) → slice_get ds (position_or_len (is_named x) ds) ≡ decl_named ds x
+        → slice_get (d ∷ ds) (cond (not b) (1 + position_or_len (is_named x) ds) 0) ≡ (if b then Some d else decl_named ds x)
+    by_name true e = refl
+    by_name false e = ap (slice_get (d ∷ ds)) (one-add (position_or_len (is_named x) ds)) ∙ e
+
+-- Which has the name.
+named-name : (ds : List DeclTree) (x : List ℕ) (d : DeclTree) → decl_named ds x ≡ Some d → x ≡ d.name
+named-name [] x d e = absurd (none-some d e)
+named-name (c ∷ cs) x d e = by_name (bytes_eq x c.name) refl e (named-name cs x d)
+  where
+    by_name : (b : Bool) → bytes_eq x c.name ≡ b → (if b then Some c else decl_named cs x) ≡ Some d → (decl_named cs x ≡ Some d → x ≡ d.name) → x ≡ d.name
+    by_name true same e rest = (bytes_eq-Decides x c.name).0 same ∙ ap (λ o. elim o [ Some k ↦ k.name | None ↦ x ]) e
+    by_name false other e rest = rest e
+
+module _ (p : ProgramTree) where
+  -- A definition has this name.
+  abbrev pub Known : List ℕ → Type 0
+  Known x = (d : DeclTree) × (decl_named p.decls x ≡ Some d)
+
+  -- The definition of a number, by its name.
+  pub record Numbered (x : List ℕ) (i : ℕ) : Type 0 where
+    pub decl : DeclTree
+    pub named : decl_named p.decls x ≡ Some decl
+    pub at : slice_get p.decls i ≡ Some decl
+    pub name : x ≡ decl.name
+    pub number : decl_number p x ≡ Some i
+
+  pub known-numbered : (x : List ℕ) → Known x → (i : ℕ) × Numbered x i
+  known-numbered x known =
+      let at = named-at p.decls x ∙ known.1 in
+      let less = slice_get_within p.decls (position_or_len (is_named x) p.decls) known.0 at in (
+        position_or_len (is_named x) p.decls,
+        record {
+          decl = known.0;
+          named = known.1;
+          at = at;
+          name = named-name p.decls x known.0 known.1;
+          number = ap (λ b. cond b (Some (position_or_len (is_named x) p.decls)) None) (lt-ltb (position_or_len (is_named x) p.decls) (length p.decls) less);
+        },
+      )
+
+  is-number : (k i : ℕ) → Some k ≡ Some i → k ≡ i
+  is-number k i e = ap (λ o. elim o [ Some n ↦ n | None ↦ k ]) e
+
+  pub number-numbered : (x : List ℕ) (i : ℕ) → decl_number p x ≡ Some i → Numbered x i
+  number-numbered x i e = by_found (decl_named p.decls x) refl
+    where
+      k : ℕ
+      k = position_or_len (is_named x) p.decls
+
+      by_found : (o : Option DeclTree) → decl_named p.decls x ≡ o → Numbered x i
+      by_found None f = by_less (nat_lt k (length p.decls)) refl e
+        where
+          by_place : k < length p.decls → ((d : DeclTree) × (k < length p.decls) × (slice_get p.decls k ≡ Some d) × (get_or p.decls k d ≡ d)) ⊎ ((length p.decls ≤ k) × (slice_get p.decls k ≡ None)) → Numbered x i
+          by_place less (inl w) = absurd (none-some w.0 (sym (named-at p.decls x ∙ f) ∙ w.2))
+          by_place less (inr w) = let most = w.0 in absurd (omega (arith, less, most))
+
+          by_less : (b : Bool) → nat_lt k (length p.decls) ≡ b → cond b (Some k) None ≡ Some i → Numbered x i
+          by_less true less g = by_place (ltb-true k (length p.decls) less) (slice_get_cases p.decls k).1
+          by_less false less g = absurd (none-some i g)
+      by_found (Some d) f =
+          let its = known-numbered x (d, f) in
+          subst (Numbered x) (is-number its.0 i (sym its.1.number ∙ e)) its.1
+
+  module _ (names : name_faults p ≡ []) where
+    -- The names in an expression that has no fault.
+    abbrev fault_of : List ℕ → Option DeclTree → List CheckFault
+    fault_of x o = elim o [ Some d ↦ fault_if (is_table d.behaviour) (TableUse x) | None ↦ UnknownName x ∷ [] ]
+
+    known-name : (x : List ℕ) (o : Option DeclTree) → fault_of x o ≡ [] → (d : DeclTree) × (o ≡ Some d)
+    known-name x None e = absurd (some-fault (UnknownName x) [] e)
+    known-name x (Some d) e = (d, refl)
+
+    either : (xs ys : List (List ℕ)) (y : List ℕ) → list_any (bytes_eq y) (xs ++ ys) ≡ true → (list_any (bytes_eq y) xs ≡ true) ⊎ (list_any (bytes_eq y) ys ≡ true)
+    either xs ys y h = by_first (list_any (bytes_eq y) xs) (sym (list_any-append (bytes_eq y) xs ys) ∙ h)
+      where
+        by_first : (b : Bool) → (b || list_any (bytes_eq y) ys) ≡ true → (b ≡ true) ⊎ (list_any (bytes_eq y) ys ≡ true)
+        by_first true e = inl refl
+        by_first false e = inr e
+
+    or-none : (b : Bool) → (b || false) ≡ true → b ≡ true
+    or-none true h = refl
+    or-none false h = h
+
+    names-known : (e : Tree) → use_faults p e ≡ [] → (y : List ℕ) → list_any (bytes_eq y) (names_in e) ≡ true → Known y
+    names-known (Const literal) none y h = absurd (false≢true h)
+    names-known (Name x) none y h = subst Known (sym ((bytes_eq-Decides y x).0 (or-none (bytes_eq y x) h))) (known-name x (decl_named p.decls x) none)
+    names-known (Unary op a) none y h = names-known a none y h
+    names-known (Binary op a b) none y h =
+        let parts = both-none (use_faults p a) (use_faults p b) none in
+        elim (either (names_in a) (names_in b) y h) [ inl k ↦ names-known a parts.0 y k | inr k ↦ names-known b parts.1 y k ]
+    names-known (Shift side a amount) none y h = names-known a none y h
+    names-known (If c a b) none y h =
+        let parts = both-none (use_faults p c) (use_faults p a ++ use_faults p b) none in
+        let more = both-none (use_faults p a) (use_faults p b) parts.1 in
+        elim (either (names_in c) (names_in a ++ names_in b) y h) [
+          | inl k ↦ names-known c parts.0 y k
+          | inr k ↦ elim (either (names_in a) (names_in b) y k) [ inl m ↦ names-known a more.0 y m | inr m ↦ names-known b more.1 y m ]
+        ]
+    names-known (Convert to a) none y h = names-known a none y h
+    names-known (Look table index) none y h = names-known index (both-none (index_fault p table) (use_faults p index) none).1 y h
+
+    -- A name that is left where one is taken out was there.
+    in-kept : (x y : List ℕ) (ns : List (List ℕ)) → list_any (bytes_eq y) (filter (λ n. not (bytes_eq x n)) ns) ≡ true → list_any (bytes_eq y) ns ≡ true
+    in-kept x y [] h = h
+    in-kept x y (n ∷ ns) h = by_tests (bytes_eq x n) (bytes_eq y n) refl h (in-kept x y ns)
+      where
+        kept : List (List ℕ)
+        kept = filter (λ m. not (bytes_eq x m)) ns
+
+        by_tests : (k b : Bool) → bytes_eq y n ≡ b → list_any (bytes_eq y) (if not k then n ∷ filter (λ m. not (bytes_eq x m)) ns else filter (λ m. not (bytes_eq x m)) ns) ≡ true
+            → (list_any (bytes_eq y) (filter (λ m. not (bytes_eq x m)) ns) ≡ true → list_any (bytes_eq y) ns ≡ true) → (b || list_any (bytes_eq y) ns) ≡ true
+        by_tests k true e h rest = refl
+        by_tests true false e h rest = rest h
+        by_tests false false e h rest = rest (sym (ap (λ b. b || list_any (bytes_eq y) (filter (λ m. not (bytes_eq x m)) ns)) e) ∙ h)
+
+    by-clause : (x y : List ℕ) (expr : Tree) (later : Bool) → use_faults p expr ≡ [] → list_any (bytes_eq y) (dependencies_by x (if later then Later expr else Now expr)) ≡ true → Known y
+    by-clause x y expr true none h = absurd (false≢true h)
+    by-clause x y expr false none h = names-known expr none y (in-kept x y (names_in expr) h)
+
+    by-clauses : (event x y : List ℕ) (before clauses : List ClauseTree) → each_after (clause_faults p x) before clauses ≡ []
+        → list_any (bytes_eq y) (dependencies_by x (clause_rule (clause_for event clauses))) ≡ true → Known y
+    by-clauses event x y before [] none h = absurd (false≢true h)
+    by-clauses event x y before (c ∷ cs) none h = by_event (bytes_eq event c.event) h (by-clauses event x y (before ++ c ∷ []) cs parts.1)
+      where
+        parts : (clause_faults p x before c ≡ []) × (each_after (clause_faults p x) (before ++ c ∷ []) cs ≡ [])
+        parts = both-none (clause_faults p x before c) (each_after (clause_faults p x) (before ++ c ∷ []) cs) none
+
+        uses : use_faults p c.expr ≡ []
+        uses = (both-none _ (use_faults p c.expr) (both-none (fault_if (not (is_event p.events c.event)) _) _ parts.0).1).1
+
+        by_event : (b : Bool) → list_any (bytes_eq y) (dependencies_by x (clause_rule (cond b (Some c) (clause_for event cs)))) ≡ true
+            → (list_any (bytes_eq y) (dependencies_by x (clause_rule (clause_for event cs))) ≡ true → Known y) → Known y
+        by_event true h rest = by-clause x y c.expr c.later uses h
+        by_event false h rest = rest h
+
+    by-behaviour : (event x y : List ℕ) (b : BehaviourTree) → behaviour_faults p x b ≡ [] → list_any (bytes_eq y) (dependencies_by x (rule_on event b)) ≡ true → Known y
+    by-behaviour event x y (Plain e) none h = names-known e none y h
+    by-behaviour event x y (Input port) none h = absurd (false≢true h)
+    by-behaviour event x y (Table entries) none h = absurd (false≢true h)
+    by-behaviour event x y (Reactive init clauses) none h = by-clauses event x y [] clauses none h
+
+    no-fault-at : (ds : List DeclTree) (x : List ℕ) (d : DeclTree) → flat_map (λ (c : DeclTree). behaviour_faults p c.name c.behaviour) ds ≡ [] → decl_named ds x ≡ Some d → behaviour_faults p x d.behaviour ≡ []
+    no-fault-at [] x d none e = absurd (none-some d e)
+    no-fault-at (c ∷ cs) x d none e = by_name (bytes_eq x c.name) refl e (no-fault-at cs x d parts.1)
+      where
+        parts : (behaviour_faults p c.name c.behaviour ≡ []) × (flat_map (λ (k : DeclTree). behaviour_faults p k.name k.behaviour) cs ≡ [])
+        parts = both-none (behaviour_faults p c.name c.behaviour) (flat_map (λ (k : DeclTree). behaviour_faults p k.name k.behaviour) cs) none
+
+        by_name : (b : Bool) → bytes_eq x c.name ≡ b → (if b then Some c else decl_named cs x) ≡ Some d → (decl_named cs x ≡ Some d → behaviour_faults p x d.behaviour ≡ []) → behaviour_faults p x d.behaviour ≡ []
+        by_name true same e rest =
+            let is : c ≡ d = ap (λ o. elim o [ Some k ↦ k | None ↦ c ]) e in
+            subst (λ (k : DeclTree). behaviour_faults p x k.behaviour ≡ []) is (subst (λ n. behaviour_faults p n c.behaviour ≡ []) (sym ((bytes_eq-Decides x c.name).0 same)) parts.0)
+        by_name false other e rest = rest e
+
+    -- What depends on something is known, and so is that.
+    pub depends-known : (event x y : List ℕ) → DependsOn p event x y → Known x × Known y
+    depends-known event x y depends = by_found (decl_named p.decls x) refl depends
+      where
+        by_found : (o : Option DeclTree) → decl_named p.decls x ≡ o → list_any (bytes_eq y) (elim o [ Some d ↦ dependencies_by x (rule_on event d.behaviour) | None ↦ [] ]) ≡ true → Known x × Known y
+        by_found None e h = absurd (false≢true h)
+        by_found (Some d) e h =
+            let bodies = both-none (flat_map (λ (c : DeclTree). behaviour_faults p c.name c.behaviour) p.decls) _ (both-none (item_faults p) (expression_faults p) names).1 in
+            ((d, e), by-behaviour event x y d.behaviour (no-fault-at p.decls x d bodies.0 e) h)
