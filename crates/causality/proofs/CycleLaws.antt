@@ -1,14 +1,14 @@
 -- First cycles, and what whoever has a program with orders knows of it.
-use Rattle.std.specs.Prelude.{◌≡◌, ℕ, List, [], ◌∷◌, ◌++◌, length, refl}
+use Rattle.std.specs.Prelude.{◌≡◌, ℕ, List, [], ◌∷◌, ◌++◌}
 use Rattle.std.specs.List.{AllByRecursion}
-use Rattle.std.proofs.Common.{sym, ap, subst, ◌∙◌, arith}
+use Rattle.std.proofs.Common.{sym, ap, subst, ◌∙◌}
 use Rattle.frp_tree.specs.declared.syntax.Event.{Event}
 use Rattle.frp_tree.specs.Tree.{DeclTree, ProgramTree, program_tree_of}
-use Rattle.efrp_meaning.specs.Causal.{IsCausal, IsCausalOn}
+use Rattle.efrp_meaning.specs.Causal.{IsCausalOn}
 use Rattle.efrp_types.specs.Passes.{Passes}
-use Rattle.causality.specs.declared.orders.Checked.{Checked}
+use Rattle.causality.specs.declared.checked.Checked.{Checked}
 use Rattle.causality.specs.Laws.{CycleIsFirst}
-use Rattle.causality.specs.Orders.{DependsOnItself, IsCausalBefore, IsFirstOn, IsFirstCycle}
+use Rattle.causality.specs.Orders.{DependsOnItself, IsFirstOn, IsFirstCycle}
 
 -- What holds of each of a row holds of one in it.
 all-at : {A : Type 0} (P : A → Type 0) (front : List A) (x : A) (back : List A) → AllByRecursion P (front ++ x ∷ back) → P x

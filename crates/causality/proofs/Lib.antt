@@ -1,6 +1,9 @@
+pub mod BridgeFacts
 pub mod CycleLaws
+pub mod EventFacts
 pub mod GraphFacts
 pub mod MarkFacts
 pub mod NumberFacts
+pub mod OrderFacts
 pub mod SearchFacts
 pub mod SortFacts

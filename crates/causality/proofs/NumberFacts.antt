@@ -1,6 +1,6 @@
 -- Definitions by name and by number, and the names that a program whose names have no fault depends on.
-use Rattle.std.specs.Prelude.{◌≡◌, ◌≢◌, ℕ, ◌+◌, ◌<◌, ◌≤◌, suc, zero, get_or, ◌⊎◌, Bool, true, false, not, nat_lt, ◌||◌, ◌&&◌, List, [], ◌∷◌, ◌++◌, length, map, filter, find, slice_get, position, Option, Some, None, cond, refl, if◌then◌else◌}
-use Rattle.std.specs.List.{AllByRecursion, IsDistinct, flat_map, list_any, position_or_len}
+use Rattle.std.specs.Prelude.{◌≡◌, ℕ, ◌+◌, ◌<◌, ◌≤◌, get_or, ◌⊎◌, Bool, true, false, not, nat_lt, ◌||◌, List, [], ◌∷◌, ◌++◌, length, filter, slice_get, Option, Some, None, cond, refl, if◌then◌else◌}
+use Rattle.std.specs.List.{flat_map, list_any, position_or_len}
 use Rattle.std.specs.Str.{bytes_eq}
 use Rattle.std.proofs.Common.{sym, ap, subst, ◌∙◌, arith}
 use Rattle.std.proofs.Math.Numerals.{one-add}
@@ -12,12 +12,11 @@ use mathlib.Core.Logic.{inl, inr}
 use Rattle.frp_tree.specs.Tree.{Tree, Const, Name, Unary, Binary, Shift, If, Convert, Look, ClauseTree, BehaviourTree, Plain, Input, Table, Reactive, DeclTree, ProgramTree}
 use Rattle.efrp_meaning.specs.Decls.{decl_named, is_table}
 use Rattle.efrp_meaning.specs.Needs.{names_in, clause_for}
-use Rattle.efrp_meaning.specs.Meaning.{Rule, Always, Sampled, Tabled, Now, Later, Stays, rule_on, clause_rule}
-use Rattle.efrp_meaning.specs.Causal.{dependencies, dependencies_by, DependsOn}
-use Rattle.efrp_meaning.specs.States.{NamesDiffer}
+use Rattle.efrp_meaning.specs.Meaning.{Now, Later, rule_on, clause_rule}
+use Rattle.efrp_meaning.specs.Causal.{dependencies_by, DependsOn}
 use Rattle.efrp_types.specs.declared.faults.CheckFault.{CheckFault}
 use Rattle.efrp_types.specs.declared.faults.CheckFault.TheVariants.{TableUse, UnknownName}
-use Rattle.efrp_types.specs.NameFaults.{fault_if, name_fault, index_fault, use_faults, clause_faults, behaviour_faults, each_after, item_faults, expression_faults, name_faults, is_event}
+use Rattle.efrp_types.specs.NameFaults.{fault_if, index_fault, use_faults, clause_faults, behaviour_faults, each_after, item_faults, expression_faults, name_faults, is_event}
 use Rattle.efrp_types.specs.Numbers.{decl_number}
 use Rattle.efrp_types.proofs.NodeLaws.{both-none, some-fault}
 

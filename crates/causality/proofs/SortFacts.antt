@@ -1,18 +1,18 @@
 -- An order that grows: each number is placed once, behind those to which it has an edge.
-use Rattle.std.specs.Prelude.{◌≡◌, ◌≢◌, ℕ, ◌+◌, ◌<◌, ◌≤◌, ◌⊎◌, Bool, true, false, not, ◌||◌, ◌&&◌, ◌==◌, List, [], ◌∷◌, ◌++◌, length, take, get_or, set, replicate, refl, if◌then◌else◌}
-use Rattle.std.specs.List.{All, count_by, list_any, list_all}
+use Rattle.std.specs.Prelude.{◌≡◌, ◌≢◌, ℕ, ◌+◌, ◌<◌, ◌≤◌, ◌⊎◌, Bool, true, false, ◌||◌, ◌==◌, List, [], ◌∷◌, ◌++◌, length, take, get_or, set, replicate, refl, if◌then◌else◌}
+use Rattle.std.specs.List.{All, count_by, list_all}
 use Rattle.std.proofs.Common.{sym, ap, subst, ◌∙◌, arith}
-use Rattle.std.proofs.lemmas.Bool.{and_parts, false≢true}
+use Rattle.std.proofs.lemmas.Bool.{false≢true}
 use Rattle.std.proofs.lemmas.Bool.Decides.{eqb_tells}
-use Rattle.std.proofs.lemmas.List.{length-replicate, length-set, length-append, get_or_append_left, take-append-le, get_or-set_same}
+use Rattle.std.proofs.lemmas.List.{length-replicate, length-set, length-append, get_or_append_left, take-append-le}
 use Rattle.std.proofs.Math.Seq.{get_or-append_seam, take-append_seam}
 use Rattle.std.proofs.lemmas.List.Sums.{sum_by_push, AllPass-from_list_all}
 use Rattle.std.proofs.lemmas.List.Elements.{All-push}
 use Rattle.std.proofs.lemmas.List.{get_or_past}
 use mathlib.Core.Logic.{inl, inr}
-use Rattle.causality.specs.Graphs.{has, edges, Edge, Path, IsRound, is_marked, IsNext, IsSorted}
+use Rattle.causality.specs.Graphs.{has, edges, Edge, IsRound, is_marked, IsNext, IsSorted}
 use Rattle.causality.proofs.GraphFacts.{has-push, has-passes, all-pass, closed-path, first-edge}
-use Rattle.causality.proofs.MarkFacts.{marked-set, none-marked, marked-below}
+use Rattle.causality.proofs.MarkFacts.{marked-set, none-marked}
 
 -- How often a number stands in an order.
 abbrev pub times : Bool → ℕ

@@ -1,3 +1,4 @@
+pub mod Answers
 pub mod Graphs
 pub mod Laws
 pub mod Orders

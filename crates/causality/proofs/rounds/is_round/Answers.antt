@@ -1,9 +1,9 @@
-use Rattle.std.proofs.Common.{sym, ap, subst, ◌∙◌, arith, length, List, ◌++◌, ◌∷◌, [], false}
+use Rattle.std.proofs.Common.{sym, ap, subst, ◌∙◌, arith, length, false}
 use Rattle.std.proofs.lemmas.List.{length-replicate, get_or_read}
 use Rattle.causality.specs.Graphs.{Marks}
 use Rattle.causality.proofs.GraphFacts.{at-edges, read-below}
 use Rattle.causality.proofs.MarkFacts.{marked-below}
-use Rattle.causality.proofs.SearchFacts.{Searching, search-begins, search-goes, search-ends, y-marked, no-more, empty}
+use Rattle.causality.proofs.SearchFacts.{Searching, search-goes, search-ends, y-marked, no-more, empty}
 use Rattle.causality.proofs.rounds.is_round.Goals as goal
 
 pub mark-requires : goal.mark-requires

@@ -1,7 +1,7 @@
 use Rattle.std.proofs.Common.{subst, ◌∙◌, sym, ap, true, set}
 use Rattle.std.specs.List.{list_all}
 use Rattle.causality.specs.Graphs.{IsNext}
-use Rattle.causality.proofs.SortFacts.{Sorting, sort-begins, sort-goes, sort-ends}
+use Rattle.causality.proofs.SortFacts.{Sorting, sort-goes, sort-ends}
 use Rattle.causality.proofs.sorts.sorted.Goals as goal
 
 pub loop-i-preserved : goal.loop-i-preserved

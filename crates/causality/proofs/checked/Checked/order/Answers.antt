@@ -1,9 +1,9 @@
-use Rattle.std.proofs.Common.{◌≡◌, ap, subst, sym, ◌∙◌, arith, List, ℕ, get_or, length}
+use Rattle.std.proofs.Common.{ap, subst, sym, ◌∙◌, arith, get_or}
 use Rattle.frp_tree.specs.Tree.{program_tree_of}
 use Rattle.efrp_types.specs.Numbers.{event_name}
 use Rattle.causality.specs.Orders.{IsOrder}
 use Rattle.causality.proofs.GraphFacts.{at-edges}
-use Rattle.causality.proofs.orders.Checked.order.Goals as goal
+use Rattle.causality.proofs.checked.Checked.order.Goals as goal
 
 pub returns : goal.returns
 returns c =
