@@ -1,6 +1,7 @@
 pub mod BridgeFacts
 pub mod CycleLaws
 pub mod EventFacts
+pub mod Examples
 pub mod GraphFacts
 pub mod MarkFacts
 pub mod NumberFacts

@@ -1,0 +1,2 @@
+-- First cycles of programs, computed.
+pub mod Cycles
