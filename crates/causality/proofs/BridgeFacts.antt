@@ -18,33 +18,11 @@ use Rattle.efrp_meaning.specs.Causal.{dependencies, dependencies_by, DependsOn, 
 use Rattle.efrp_types.specs.NameFaults.{name_faults}
 use Rattle.efrp_types.specs.Numbers.{decl_number}
 use Rattle.efrp_types.proofs.GoodLaws.{no-fault-is-good}
+use Rattle.efrp_types.proofs.NumberLaws.{numbers-agree}
 use Rattle.causality.specs.Graphs.{numbers_of, edges_by, edges_on, graph_on, has, edges, Edge, Path, IsRound}
 use Rattle.causality.specs.Orders.{DependsOnItself}
 use Rattle.causality.proofs.GraphFacts.{same_number}
-use Rattle.causality.proofs.NumberFacts.{is_named, same_bytes, Known, Numbered, known-numbered, number-numbered, depends-known}
-
--- The place of a definition's own name, where names differ, is its place.
-own-place : (ds : List DeclTree) → IsDistinct bytes_eq (map (λ (d : DeclTree). d.name) ds) → (i : ℕ) (d : DeclTree) → slice_get ds i ≡ Some d → position_or_len (is_named d.name) ds ≡ i
-unfolding IsDistinct
-own-place [] differ i d e = absurd (none-some d e)
-own-place (c ∷ cs) differ zero d e =
-    let is : c ≡ d = ap (λ o. elim o [ Some k ↦ k | None ↦ c ]) e in
-    ap (λ b. if not b then 1 + position_or_len (is_named d.name) cs else 0) (ap (λ (k : DeclTree). bytes_eq d.name k.name) is ∙ same_bytes d.name)
-own-place (c ∷ cs) differ (suc i) d e =
-    ap (λ b. if not b then 1 + position_or_len (is_named d.name) cs else 0) (not-turned c.name d.name (apart cs i differ.0 e))
-    ∙ ap (λ n. 1 + n) (own-place cs differ.1 i d e) ∙ one-add i
-  where
-    not-turned : (a b : List ℕ) → bytes_eq a b ≡ false → bytes_eq b a ≡ false
-    not-turned a b f = by_test (bytes_eq b a) refl
-      where
-        by_test : (k : Bool) → bytes_eq b a ≡ k → k ≡ false
-        by_test false g = refl
-        by_test true g = absurd (false≢true (sym f ∙ (bytes_eq-Decides a b).1 (sym ((bytes_eq-Decides b a).0 g))))
-
-    apart : (ks : List DeclTree) (k : ℕ) → AllByRecursion (λ y. bytes_eq c.name y ≡ false) (map (λ (d : DeclTree). d.name) ks) → slice_get ks k ≡ Some d → bytes_eq c.name d.name ≡ false
-    apart [] k all g = absurd (none-some d g)
-    apart (b ∷ bs) zero all g = subst (λ (m : DeclTree). bytes_eq c.name m.name ≡ false) (ap (λ o. elim o [ Some m ↦ m | None ↦ b ]) g) all.0
-    apart (b ∷ bs) (suc k) all g = apart bs k all.1 g
+use Rattle.causality.proofs.NumberFacts.{same_bytes, Known, Numbered, known-numbered, number-numbered, depends-known}
 
 module _ (p : ProgramTree) where
   -- The numbers of names.
@@ -166,6 +144,4 @@ module _ (p : ProgramTree) where
 
       -- Each definition has its number.
       pub own-numbered : (i : ℕ) (d : DeclTree) → slice_get p.decls i ≡ Some d → Numbered p d.name i
-      own-numbered i d e =
-          let place = own-place p.decls (no-fault-is-good p names).decls_differ i d e in
-          number-numbered p d.name i (ap (λ k. if nat_lt k (length p.decls) then Some k else None) place ∙ ap (λ b. if b then Some i else None) (lt-ltb i (length p.decls) (slice_get_within p.decls i d e)))
+      own-numbered i d e = number-numbered p d.name i ((numbers-agree p).own_decls (no-fault-is-good p names).decls_differ i d e)

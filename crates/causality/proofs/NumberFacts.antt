@@ -1,5 +1,5 @@
 -- Definitions by name and by number, and the names that a program whose names have no fault depends on.
-use Rattle.std.specs.Prelude.{◌≡◌, ℕ, ◌+◌, ◌<◌, ◌≤◌, get_or, ◌⊎◌, Bool, true, false, not, nat_lt, ◌||◌, List, [], ◌∷◌, ◌++◌, length, filter, slice_get, Option, Some, None, cond, refl, if◌then◌else◌}
+use Rattle.std.specs.Prelude.{◌≡◌, ℕ, ◌+◌, ◌<◌, ◌≤◌, get_or, ◌⊎◌, Bool, true, false, not, nat_lt, ◌||◌, List, [], ◌∷◌, ◌++◌, length, filter, slice_get, Option, Some, None, IsSome, cond, refl, if◌then◌else◌}
 use Rattle.std.specs.List.{flat_map, list_any, position_or_len}
 use Rattle.std.specs.Str.{bytes_eq}
 use Rattle.std.proofs.Common.{sym, ap, subst, ◌∙◌, arith}
@@ -19,25 +19,12 @@ use Rattle.efrp_types.specs.declared.faults.CheckFault.TheVariants.{TableUse, Un
 use Rattle.efrp_types.specs.NameFaults.{fault_if, index_fault, use_faults, clause_faults, behaviour_faults, each_after, item_faults, expression_faults, name_faults, is_event}
 use Rattle.efrp_types.specs.Numbers.{decl_number}
 use Rattle.efrp_types.proofs.NodeLaws.{both-none, some-fault}
-
--- The name of a definition, as a test.
-abbrev pub is_named : List ℕ → DeclTree → Bool
-is_named x d = bytes_eq x d.name
+use Rattle.efrp_types.proofs.NumberLaws.{decl_number_agrees, decl_number_within, item_at, numbered}
 
 pub same_bytes : (x : List ℕ) → bytes_eq x x ≡ true
 same_bytes x = (bytes_eq-Decides x x).1 refl
 
--- What stands at the first place of a name is the definition of that name.
-named-at : (ds : List DeclTree) (x : List ℕ) → slice_get ds (position_or_len (is_named x) ds) ≡ decl_named ds x
-named-at [] x = refl
-named-at (d ∷ ds) x = by_name (bytes_eq x d.name) (named-at ds x)
-  where
-    by_name : (b : Bool) → slice_get ds (position_or_len (is_named x) ds) ≡ decl_named ds x
-        → slice_get (d ∷ ds) (cond (not b) (1 + position_or_len (is_named x) ds) 0) ≡ (if b then Some d else decl_named ds x)
-    by_name true e = refl
-    by_name false e = ap (slice_get (d ∷ ds)) (one-add (position_or_len (is_named x) ds)) ∙ e
-
--- Which has the name.
+-- The definition of a name has it.
 named-name : (ds : List DeclTree) (x : List ℕ) (d : DeclTree) → decl_named ds x ≡ Some d → x ≡ d.name
 named-name [] x d e = absurd (none-some d e)
 named-name (c ∷ cs) x d e = by_name (bytes_eq x c.name) refl e (named-name cs x d)
@@ -59,42 +46,18 @@ module _ (p : ProgramTree) where
     pub name : x ≡ decl.name
     pub number : decl_number p x ≡ Some i
 
-  pub known-numbered : (x : List ℕ) → Known x → (i : ℕ) × Numbered x i
-  known-numbered x known =
-      let at = named-at p.decls x ∙ known.1 in
-      let less = slice_get_within p.decls (position_or_len (is_named x) p.decls) known.0 at in (
-        position_or_len (is_named x) p.decls,
-        record {
-          decl = known.0;
-          named = known.1;
-          at = at;
-          name = named-name p.decls x known.0 known.1;
-          number = ap (λ b. cond b (Some (position_or_len (is_named x) p.decls)) None) (lt-ltb (position_or_len (is_named x) p.decls) (length p.decls) less);
-        },
-      )
-
-  is-number : (k i : ℕ) → Some k ≡ Some i → k ≡ i
-  is-number k i e = ap (λ o. elim o [ Some n ↦ n | None ↦ k ]) e
-
   pub number-numbered : (x : List ℕ) (i : ℕ) → decl_number p x ≡ Some i → Numbered x i
-  number-numbered x i e = by_found (decl_named p.decls x) refl
+  number-numbered x i e =
+      let d = item_at p.decls i (decl_number_within p x i e) in
+      let named = sym (decl_number_agrees p x i e) ∙ d.1 in
+      record { decl = d.0; named = named; at = d.1; name = named-name p.decls x d.0 named; number = e }
+
+  pub known-numbered : (x : List ℕ) → Known x → (i : ℕ) × Numbered x i
+  known-numbered x known = by_number (decl_number p x) refl (numbered p x (subst IsSome (sym known.1) refl))
     where
-      k : ℕ
-      k = position_or_len (is_named x) p.decls
-
-      by_found : (o : Option DeclTree) → decl_named p.decls x ≡ o → Numbered x i
-      by_found None f = by_less (nat_lt k (length p.decls)) refl e
-        where
-          by_place : k < length p.decls → ((d : DeclTree) × (k < length p.decls) × (slice_get p.decls k ≡ Some d) × (get_or p.decls k d ≡ d)) ⊎ ((length p.decls ≤ k) × (slice_get p.decls k ≡ None)) → Numbered x i
-          by_place less (inl w) = absurd (none-some w.0 (sym (named-at p.decls x ∙ f) ∙ w.2))
-          by_place less (inr w) = let most = w.0 in absurd (omega (arith, less, most))
-
-          by_less : (b : Bool) → nat_lt k (length p.decls) ≡ b → cond b (Some k) None ≡ Some i → Numbered x i
-          by_less true less g = by_place (ltb-true k (length p.decls) less) (slice_get_cases p.decls k).1
-          by_less false less g = absurd (none-some i g)
-      by_found (Some d) f =
-          let its = known-numbered x (d, f) in
-          subst (Numbered x) (is-number its.0 i (sym its.1.number ∙ e)) its.1
+      by_number : (o : Option ℕ) → decl_number p x ≡ o → IsSome o → (i : ℕ) × Numbered x i
+      by_number None e some = absurd (false≢true some)
+      by_number (Some i) e some = (i, number-numbered x i e)
 
   module _ (names : name_faults p ≡ []) where
     -- The names in an expression that has no fault.
