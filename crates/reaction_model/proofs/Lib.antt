@@ -1,0 +1,3 @@
+pub mod EvaluateLaws
+pub mod LookupLaws
+pub mod OperatorLaws

@@ -1,0 +1,3 @@
+pub mod Stands
+pub mod States
+pub mod Values
