@@ -27,6 +27,7 @@ use Rattle.efrp_meaning.proofs.TypedValueLaws.{FoundTyped, decl-typed, evaluate-
 use Rattle.reaction_model.specs.Values.{value_or_nothing, entry_in, value_named, value_of}
 use Rattle.reaction_model.specs.Stands.{IsValue}
 use Rattle.reaction_model.proofs.LookupLaws.{last-at}
+use Rattle.reaction_model.proofs.NumberLaws.{each-at}
 use Rattle.reaction_model.proofs.OperatorLaws.{number-is, has-value, unary-is, binary-is, shift-is, if-is, convert-is}
 
 -- Literals.
@@ -45,10 +46,6 @@ literal-is (lit.Truth true) = (omega arith, refl)
 literal-is (lit.Truth false) = (omega arith, refl)
 
 -- Entries of tables.
-each-at : {A : Type 0} (P : A → Type 0) (xs : List A) (i : ℕ) (x : A) → AllByRecursion P xs → slice_get xs i ≡ Some x → P x
-each-at P [] i x all found = absurd (none-some x found)
-each-at P (y ∷ ys) zero x all found = subst P (same_Some y x found) all.0
-each-at P (y ∷ ys) (suc i) x all found = each-at P ys i x all.1 found
 
 abbrev IsEntryOf : Ty → List Lit → ℕ → Type 0
 IsEntryOf t entries i = (l : Lit) × (entry_at entries i ≡ Some l) × (literal_type l ≡ Some t)

@@ -1,3 +1,5 @@
 pub mod EvaluateLaws
 pub mod LookupLaws
+pub mod NumberLaws
 pub mod OperatorLaws
+pub mod SettledLaws

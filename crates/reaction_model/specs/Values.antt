@@ -111,3 +111,11 @@ abbrev pub byte_of : Value → ℕ
 byte_of (value.Bool b) = 0
 byte_of (value.U8 n) = n
 byte_of (value.U16 n) = 0
+
+-- The value of what an input reads.
+abbrev pub sample_value : Option ℕ → Value
+sample_value (Some n) = value.U8 n
+sample_value None = nothing
+
+abbrev pub sample_or_nothing : List ℕ → ℕ → Value
+sample_or_nothing samples n = sample_value (slice_get samples n)

@@ -4,8 +4,5 @@
 
 mod evaluate;
 mod lookups;
-
 mod rules;
 mod values;
-
-
