@@ -1,5 +1,6 @@
 pub mod EvaluateLaws
 pub mod LookupLaws
+pub mod MadeLaws
 pub mod NumberLaws
 pub mod OperatorLaws
 pub mod SettledLaws
