@@ -1,10 +1,13 @@
 -- Rows of values that are made one definition or output after the other.
-use Rattle.std.specs.Prelude.{◌≡◌, ℕ, ◌%◌, ◌<◌, Bool, true, false, List, [], ◌∷◌, ◌++◌, map, filter, slice_get, flat_map, Option, Some, None, option_and_then, if◌then◌else◌, refl}
+use Rattle.std.specs.Prelude.{◌≡◌, ℕ, ◌+◌, ◌%◌, ◌<◌, Bool, true, false, List, [], ◌∷◌, ◌++◌, map, filter, slice_get, flat_map, Option, Some, None, option_and_then, if◌then◌else◌, refl}
 use Rattle.std.specs.List.{AllByRecursion, list_any}
 use Rattle.std.specs.Str.{bytes_eq}
-use Rattle.std.proofs.Common.{sym, ap, subst, ◌∙◌, arith}
-use Rattle.std.proofs.Math.Nat.{mod-lt}
+use Rattle.std.proofs.Common.{sym, ap, subst, ◌∙◌, arith, take}
+use Rattle.std.proofs.Math.Nat.{mod-eq_of_lt, mod-lt}
 use Rattle.std.proofs.Math.Path.{ap₂}
+use Rattle.std.proofs.lemmas.Grind.{flat_map-append}
+use Rattle.std.proofs.lemmas.List.{append-nil, take_more}
+use Rattle.std.proofs.lemmas.Option.{slice_get_within, get_or_from_slice_get}
 use Rattle.std.proofs.lemmas.Slice.Eq.{bytes_eq-Decides}
 use Rattle.frp_tree.specs.declared.syntax.Ty.{Ty}
 use Rattle.frp_tree.specs.declared.syntax.Ty.TheVariants.{U8, U16}
@@ -99,6 +102,13 @@ module _ (p : ProgramTree) where
       let all = made-defined (state_types p.decls) (flat_map (λ d. first_state_of d.behaviour) p.decls) (flat_map (λ d. first_values d.behaviour) p.decls) (all-first-made p.decls typed.decls) in
       (all.0, subst (λ ts. AreOf ts (flat_map (λ (d : DeclTree). first_values d.behaviour) p.decls)) (types-of-states p.decls) all.1)
 
+-- The new states of these definitions.
+abbrev pub new_of : ProgramTree → State → Samples → List ℕ → List DeclTree → List (Option ℕ)
+new_of p s j event ds = flat_map (λ (d : DeclTree). new_state_by p s j event d.name (rule_on event d.behaviour)) ds
+
+flat-more : {A B : Type 0} (f : A → List B) (xs : List A) (x : A) → flat_map f (xs ++ x ∷ []) ≡ flat_map f xs ++ f x
+flat-more f xs x = flat_map-append f xs (x ∷ []) ∙ ap (λ ys. flat_map f xs ++ ys) (append-nil (f x))
+
 -- New states and port values, where the values of an event stand at the numbers of the definitions.
 module _ (p : ProgramTree) (typed : IsTyped p) (differ : NamesDiffer p) (s : State) (j : Samples) (event : List ℕ) (values : List Value) (are : AreValues p s j event values) where
   abbrev on : List ℕ → Option ℕ
@@ -166,19 +176,29 @@ module _ (p : ProgramTree) (typed : IsTyped p) (differ : NamesDiffer p) (s : Sta
         (ap (rule_on event) is)
         (subst (λ b. IsValue (if is_table b then None else Some d.ty) (on d.name) (at values i)) is (are i d found))
 
-    pub new-made : Made (state_type d.ty d.behaviour) (new_state_by p s j event d.name (rule_on event d.behaviour)) (new_values_by p values (at values i) (rule_on event d.behaviour))
+    new-made : Made (state_type d.ty d.behaviour) (new_state_by p s j event d.name (rule_on event d.behaviour)) (new_values_by p values (at values i) (rule_on event d.behaviour))
     new-made = by_behaviour d.behaviour refl (subst (FoundTyped p) finds (decl-typed p typed d.name))
 
-  abbrev pub states_of : List DeclTree → List (Option ℕ)
-  states_of ds = flat_map (λ (d : DeclTree). new_state_by p s j event d.name (rule_on event d.behaviour)) ds
+  -- One definition more.
+  pub new-more : (i : ℕ) (d : DeclTree) (new : List Value) → slice_get p.decls i ≡ Some d → Made (state_types (take i p.decls)) (new_of p s j event (take i p.decls)) new
+      → Made (state_types (take (i + 1) p.decls)) (new_of p s j event (take (i + 1) p.decls)) (new ++ new_values_by p values (at values i) (rule_on event d.behaviour))
+  new-more i d new found made =
+      let inside = slice_get_within p.decls i d found in
+      let more = take_more p.decls i d inside ∙ ap (λ c. take i p.decls ++ c ∷ []) (get_or_from_slice_get p.decls i d d found) in
+      subst (λ ds. Made (state_types ds) (new_of p s j event ds) (new ++ new_values_by p values (at values i) (rule_on event d.behaviour))) (sym more)
+      (subst (λ ts. Made ts (new_of p s j event (take i p.decls ++ d ∷ [])) (new ++ new_values_by p values (at values i) (rule_on event d.behaviour))) (sym (flat-more (λ (c : DeclTree). state_type c.ty c.behaviour) (take i p.decls) d))
+      (subst (λ os. Made (state_types (take i p.decls) ++ state_type d.ty d.behaviour) os (new ++ new_values_by p values (at values i) (rule_on event d.behaviour)))
+      (sym (flat-more (λ (c : DeclTree). new_state_by p s j event c.name (rule_on event c.behaviour)) (take i p.decls) d))
+      (made-after (state_types (take i p.decls)) (state_type d.ty d.behaviour) (new_of p s j event (take i p.decls)) (new_state_by p s j event d.name (rule_on event d.behaviour)) new
+      (new_values_by p values (at values i) (rule_on event d.behaviour)) made (new-made i d found))))
 
-  pub new-state-is : (new : List Value) → Made (state_types p.decls) (states_of p.decls) new → (new_state p s j event ≡ Some (numbers_of new)) × HasTypes p new
+  pub new-state-is : (new : List Value) → Made (state_types p.decls) (new_of p s j event p.decls) new → (new_state p s j event ≡ Some (numbers_of new)) × HasTypes p new
   new-state-is new made =
-      let all = made-defined (state_types p.decls) (states_of p.decls) new made in
+      let all = made-defined (state_types p.decls) (new_of p s j event p.decls) new made in
       (all.0, subst (λ ts. AreOf ts new) (types-of-states p.decls) all.1)
 
   byte-is : (o : Option ℕ) (v : Value) → IsValue (Some U8) o v → o ≡ Some (byte_of v)
-  byte-is (Some n) v is = ap Some (sym (ap byte_of is.1 ∙ Rattle.std.proofs.Math.Nat.mod-eq_of_lt is.0))
+  byte-is (Some n) v is = ap Some (sym (ap byte_of is.1 ∙ mod-eq_of_lt is.0))
   byte-is None v is = absurd is
 
   all-bytes : (os : List OutputTree) → AllByRecursion (λ (o : OutputTree). type_of p o.expr ≡ Some U8) os

@@ -37,7 +37,7 @@ first-at test x xs e = rw e refl
 next-at : {A : Type 0} (test : A → Bool) (x : A) (xs : List A) → test x ≡ false → position_or_len test (x ∷ xs) ≡ suc (position_or_len test xs)
 next-at test x xs e = rw e (omega arith)
 
-abbrev names : List DeclTree → List (List ℕ)
+abbrev pub names : List DeclTree → List (List ℕ)
 names ds = map (λ (d : DeclTree). d.name) ds
 
 pub other-name : (c d : DeclTree) (cs : List DeclTree) (n : ℕ) → IsDistinct bytes_eq (names (c ∷ cs)) → slice_get cs n ≡ Some d → bytes_eq d.name c.name ≡ false

@@ -1,13 +1,13 @@
 -- Where what stands at each number of an order so far is the definition's value, the next one's rule gives its value too.
-use Rattle.std.specs.Prelude.{◌≡◌, ℕ, ◌+◌, ◌<◌, ◌≢◌, suc, zero, Bool, true, false, not, ◌||◌, ◌==◌, List, [], ◌∷◌, ◌++◌, length, map, filter, slice_get, unwrap_or, Option, Some, None, option_and_then, if◌then◌else◌, refl}
+use Rattle.std.specs.Prelude.{◌≡◌, ℕ, ◌+◌, ◌<◌, ◌≢◌, suc, zero, Bool, true, false, not, ◌||◌, ◌==◌, List, [], ◌∷◌, ◌++◌, length, map, filter, count_by, slice_get, unwrap_or, Option, Some, None, option_and_then, if◌then◌else◌, refl}
 use Rattle.std.specs.List.{list_any}
 use Rattle.std.specs.Str.{bytes_eq}
-use Rattle.std.proofs.Common.{sym, ap, subst, ◌∙◌, arith, get_or, take, drop, eq-eqb, eqb-true}
+use Rattle.std.proofs.Common.{sym, ap, subst, ◌∙◌, arith, get_or, take, drop, drop-cons, eq-eqb}
 use Rattle.std.proofs.Math.ListN.{set}
-use Rattle.std.proofs.lemmas.Bool.{false≢true}
-use Rattle.std.proofs.lemmas.List.{get_or-set_same, get_or-set_other}
+use Rattle.std.proofs.lemmas.Bool.{eqb-true, false≢true}
+use Rattle.std.proofs.lemmas.List.{get_or-set_same, get_or-set_other, take-append-drop, take_more}
 use Rattle.std.proofs.lemmas.List.Folds.{list_any-append}
-use Rattle.std.proofs.lemmas.Option.{same_Some, unwrap_or-slice_get, slice_get_within}
+use Rattle.std.proofs.lemmas.Option.{same_Some, unwrap_or-slice_get, slice_get-get_or, slice_get_within}
 use Rattle.std.proofs.lemmas.Slice.Eq.{bytes_eq-Decides}
 use Rattle.frp_tree.specs.declared.syntax.Ty.{Ty}
 use Rattle.frp_tree.specs.declared.syntax.Ty.TheVariants.{U8}
@@ -27,7 +27,7 @@ use Rattle.causality.specs.Orders.{is_among, IsOrder}
 use Rattle.reaction_model.specs.Values.{nothing, value_or_nothing, value_named, value_of, settled_by}
 use Rattle.reaction_model.specs.Stands.{IsValue, AreGiven, AreValues}
 use Rattle.reaction_model.proofs.EvaluateLaws.{value-is}
-use Rattle.reaction_model.proofs.NumberLaws.{number-at, name-finds, IsAt, by-number, has, one-is-some, not-before}
+use Rattle.reaction_model.proofs.NumberLaws.{each-at, number-at, name-finds, IsAt, by-number, has, one-is-some, not-before}
 
 -- What stands at a number.
 abbrev pub at : List Value → ℕ → Value
@@ -58,24 +58,24 @@ is-also None o o' v has same is = tt
 is-also (Some t) None o' v has same is = absurd has
 is-also (Some t) (Some n) o' v has same is = subst (λ k. IsValue (Some t) k v) (same n refl) is
 
+-- The values of these stand at their numbers; at those of others old states and samples do.
+pub record AreSettled (p : ProgramTree) (s : State) (j : Samples) (event : List ℕ) (front : List ℕ) (values : List Value) : Type 0 where
+  pub settled : (n : ℕ) (d : DeclTree) → slice_get p.decls n ≡ Some d → has front n ≡ true → IsValue (value_type d) (value_on p s j event d.name (depth p)) (at values n)
+  pub states : (n : ℕ) (d : DeclTree) → slice_get p.decls n ≡ Some d → has front n ≡ false → is_reactive d.behaviour ≡ true → IsValue (Some d.ty) (old_state p s d.name) (at values n)
+  pub samples : (n : ℕ) (d : DeclTree) → slice_get p.decls n ≡ Some d → has front n ≡ false → is_input d.behaviour ≡ true → IsValue (Some U8) (sample_of p j d.name) (at values n)
+
+pub begins : (p : ProgramTree) (s : State) (j : Samples) (event : List ℕ) (values : List Value) → AreGiven p s j values → AreSettled p s j event [] values
+begins p s j event values given = record {
+  settled = λ n d found inside. absurd (false≢true inside);
+  states = λ n d found out reactive. given.states n d found reactive;
+  samples = λ n d found out input. given.samples n d found input;
+}
+
 module _ (p : ProgramTree) (typed : IsTyped p) (differ : NamesDiffer p) (s : State) (is_state : IsState p s) (j : Samples) (are_samples : AreSamples p j) (event : List ℕ) (causal : IsCausalOn p event) where
   abbrev on : List ℕ → Option ℕ
   on y = value_on p s j event y (depth p)
 
-  -- The values of these stand at their numbers; at those of others old states and samples do.
-  pub record AreSettled (front : List ℕ) (values : List Value) : Type 0 where
-    pub settled : (n : ℕ) (d : DeclTree) → slice_get p.decls n ≡ Some d → has front n ≡ true → IsValue (value_type d) (on d.name) (at values n)
-    pub states : (n : ℕ) (d : DeclTree) → slice_get p.decls n ≡ Some d → has front n ≡ false → is_reactive d.behaviour ≡ true → IsValue (Some d.ty) (old_state p s d.name) (at values n)
-    pub samples : (n : ℕ) (d : DeclTree) → slice_get p.decls n ≡ Some d → has front n ≡ false → is_input d.behaviour ≡ true → IsValue (Some U8) (sample_of p j d.name) (at values n)
-
-  pub begins : (values : List Value) → AreGiven p s j values → AreSettled [] values
-  begins values given = record {
-    settled = λ n d found inside. absurd (false≢true inside);
-    states = λ n d found out reactive. given.states n d found reactive;
-    samples = λ n d found out input. given.samples n d found input;
-  }
-
-  module _ (front : List ℕ) (values : List Value) (are : AreSettled front values) where
+  module _ (front : List ℕ) (values : List Value) (are : AreSettled p s j event front values) where
     -- A name whose number is among these.
     named : (y : List ℕ) → is_among p front y ≡ true → IsValue (type_of_name p y) (on y) (value_named p values y)
     named y among = by_number (decl_number p y) refl among
@@ -161,7 +161,7 @@ module _ (p : ProgramTree) (typed : IsTyped p) (differ : NamesDiffer p) (s : Sta
           by_tests false e true f h = absurd (false≢true (sym h))
           by_tests false e false f h = (e, λ same. false≢true (sym f ∙ eq-eqb i n (sym same)))
 
-      pub settles : i < length values → AreSettled (front ++ i ∷ []) after
+      pub settles : i < length values → AreSettled p s j event (front ++ i ∷ []) after
       settles inside = record {
         settled = λ n c there h. by_place n c there (i == n) refl (sym (has-next n) ∙ h);
         states = λ n c there h reactive. let o = out-of n h in
@@ -185,6 +185,24 @@ module _ (p : ProgramTree) (typed : IsTyped p) (differ : NamesDiffer p) (s : Sta
               subst (IsValue (value_type c) (on c.name)) (sym (at-other values i n (settled_by p values (at values i) (rule_on event d.behaviour)) (λ same. false≢true (sym e ∙ eq-eqb i n (sym same)))))
               (are.settled n c there (or-first (has front n) h))
 
-  -- Where all stand in the order, all values stand at their numbers.
-  pub settled-all : (order : List ℕ) (values : List Value) → IsOrder p event order → AreSettled order values → AreValues p s j event values
-  settled-all order values ordered are n d found = are.settled n d found (one-is-some (λ m. m == n) order (ordered.once n (slice_get_within p.decls n d found)))
+-- Where all stand in the order, all values stand at their numbers.
+pub settled-all : (p : ProgramTree) (s : State) (j : Samples) (event order : List ℕ) (values : List Value) → IsOrder p event order → AreSettled p s j event order values → AreValues p s j event values
+settled-all p s j event order values ordered are n d found = are.settled n d found (one-is-some (λ m. m == n) order (ordered.once n (slice_get_within p.decls n d found)))
+
+-- One number of an order more.
+pub settles-more : (p : ProgramTree) → IsTyped p → NamesDiffer p → (s : State) → IsState p s → (j : Samples) → AreSamples p j → (event : List ℕ) → IsCausalOn p event → (order : List ℕ) → IsOrder p event order
+    → (k : ℕ) → k < length order → (d : DeclTree) → slice_get p.decls (get_or order k 0) ≡ Some d → (values : List Value) → length values ≡ length p.decls → AreSettled p s j event (take k order) values
+    → (v : Value) → v ≡ settled_by p values (at values (get_or order k 0)) (rule_on event d.behaviour) → AreSettled p s j event (take (k + 1) order) (set values (get_or order k 0) v)
+settles-more p typed differ s is_state j are_samples event causal order ordered k more d found values long are v is =
+    let i = get_or order k 0 in
+    let split : order ≡ take k order ++ i ∷ drop (suc k) order = sym (take-append-drop k order) ∙ ap (λ rest. take k order ++ rest) (drop-cons order k 0 more) in
+    let within = slice_get_within p.decls i d found in
+    let once = ap (λ xs. count_by (λ m. m == i) xs) (sym split) ∙ ordered.once i within in
+    let inside : i < length values = omega (arith, within, long) in
+    subst (λ w. AreSettled p s j event (take (k + 1) order) (set values i w)) (sym is)
+    (subst (λ front. AreSettled p s j event front (set values i (settled_by p values (at values i) (rule_on event d.behaviour)))) (sym (take_more order k 0 more))
+    (settles p typed differ s is_state j are_samples event causal (take k order) values are i d found (not-before (take k order) (drop (suc k) order) i once)
+    (λ y depends. ordered.behind (take k order) (drop (suc k) order) i d split found y depends) inside))
+
+pub number-within : (p : ProgramTree) (event order : List ℕ) → IsOrder p event order → (k : ℕ) → k < length order → get_or order k 0 < length p.decls
+number-within p event order ordered k more = each-at (λ n. n < length p.decls) order k (get_or order k 0) ordered.within (slice_get-get_or order k 0 more)

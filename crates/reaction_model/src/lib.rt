@@ -4,5 +4,9 @@
 
 mod evaluate;
 mod lookups;
+mod passes;
+mod reactions;
 mod rules;
 mod values;
+
+pub use reactions::{Reaction, State, initial, react};
