@@ -1,5 +1,5 @@
 -- Old states and samples, laid out at the numbers of their definitions.
-use Rattle.std.specs.Prelude.{◌≡◌, ℕ, ◌+◌, ◌<◌, ◌≤◌, zero, suc, Bool, true, false, List, [], ◌∷◌, ◌++◌, length, map, filter, slice_get, Option, Some, None, if◌then◌else◌, refl}
+use Rattle.std.specs.Prelude.{◌≡◌, ℕ, ◌+◌, ◌<◌, ◌≤◌, zero, suc, true, false, List, [], ◌∷◌, ◌++◌, length, map, filter, slice_get, Option, Some, if◌then◌else◌, refl}
 use Rattle.std.specs.List.{IsDistinct}
 use Rattle.std.specs.Str.{bytes_eq}
 use Rattle.std.proofs.Common.{sym, ap, subst, ◌∙◌, arith, add-one, append_assoc, drop, drop-cons, get_or}
@@ -20,7 +20,7 @@ use Rattle.frp_tree.specs.declared.syntax.Decl.{Decl}
 use Rattle.frp_tree.specs.declared.syntax.Lit.{Lit}
 use Rattle.frp_tree.specs.Tree.{BehaviourTree, Plain, Input, Table, Reactive, DeclTree, ProgramTree, behaviour_of, decl_of}
 use Rattle.efrp_meaning.specs.Decls.{is_input, is_reactive}
-use Rattle.efrp_meaning.specs.Values.{number_of, truth_number}
+use Rattle.efrp_meaning.specs.Values.{number_of}
 use Rattle.efrp_meaning.specs.Meaning.{Samples, value_at}
 use Rattle.efrp_meaning.specs.States.{AreValuesOf, AreSamples, NamesDiffer}
 use Rattle.reaction_model.specs.States.{IsOf, AreOf, HasTypes, numbers_of}
@@ -40,11 +40,11 @@ sample js = sample_or_nothing js 0
 abbrev pub laid : List DeclTree → List Value → List ℕ → List Value
 laid [] vs js = []
 laid (d ∷ ds) vs js = elim d.behaviour [
-    | Plain e ↦ nothing ∷ laid ds vs js
-    | Input port ↦ sample js ∷ laid ds vs (drop 1 js)
-    | Table entries ↦ nothing ∷ laid ds vs js
-    | Reactive init clauses ↦ first vs ∷ laid ds (drop 1 vs) js
-  ]
+  | Plain e ↦ nothing ∷ laid ds vs js
+  | Input port ↦ sample js ∷ laid ds vs (drop 1 js)
+  | Table entries ↦ nothing ∷ laid ds vs js
+  | Reactive init clauses ↦ first vs ∷ laid ds (drop 1 vs) js
+]
 
 own-value : (t : Ty) (v : Value) → IsOf t v → IsValue (Some t) (Some (number_of v)) v
 own-value ty.Bool (value.Bool true) is = (omega arith, refl)
@@ -135,10 +135,10 @@ laid-later c d cs vs js n other states bytes rest = by_behaviour c.behaviour ref
         → IsLaid (c ∷ cs) vs js d (at (laid (c ∷ cs) vs js) (suc n))
     by_behaviour (Plain e) is states bytes =
         let r = rest vs js states bytes in
-        record { state = λ h. rw is (r.state h); read = λ h. rw is (r.read h); }
+        record { state = λ h. rw is (r.state h); read = λ h. rw is (r.read h) }
     by_behaviour (Table entries) is states bytes =
         let r = rest vs js states bytes in
-        record { state = λ h. rw is (r.state h); read = λ h. rw is (r.read h); }
+        record { state = λ h. rw is (r.state h); read = λ h. rw is (r.read h) }
     by_behaviour (Input port) is states bytes =
         let r = rest vs (drop 1 js) states (tail-bytes c (inputs cs) js bytes) in
         record {
@@ -172,11 +172,11 @@ length-laid (d ∷ ds) vs js = by_behaviour d.behaviour (length-laid ds)
   where
     by_behaviour : (b : BehaviourTree) → ((ws : List Value) (ks : List ℕ) → length (laid ds ws ks) ≡ length ds)
         → length {A = Value} (elim b [
-            | Plain e ↦ nothing ∷ laid ds vs js
-            | Input port ↦ sample js ∷ laid ds vs (drop 1 js)
-            | Table entries ↦ nothing ∷ laid ds vs js
-            | Reactive init clauses ↦ first vs ∷ laid ds (drop 1 vs) js
-          ]) ≡ length (d ∷ ds)
+          | Plain e ↦ nothing ∷ laid ds vs js
+          | Input port ↦ sample js ∷ laid ds vs (drop 1 js)
+          | Table entries ↦ nothing ∷ laid ds vs js
+          | Reactive init clauses ↦ first vs ∷ laid ds (drop 1 vs) js
+        ]) ≡ length (d ∷ ds)
     by_behaviour (Plain e) rest = ap suc (rest vs js)
     by_behaviour (Input port) rest = ap suc (rest vs (drop 1 js))
     by_behaviour (Table entries) rest = ap suc (rest vs js)

@@ -1,10 +1,10 @@
 -- Definitions by name and by number, entries by number, and clauses by event.
-use Rattle.std.specs.Prelude.{◌≡◌, ℕ, ◌+◌, ◌-◌, ◌<◌, ◌≤◌, suc, zero, Bool, true, false, nat_lt, cond, List, [], ◌∷◌, length, map, slice_get, position, find, Option, Some, None, option_map, option_and_then, if◌then◌else◌, refl}
+use Rattle.std.specs.Prelude.{◌≡◌, ℕ, ◌-◌, ◌<◌, Bool, true, false, nat_lt, cond, List, [], ◌∷◌, length, map, slice_get, position, find, Some, None, option_map, option_and_then, if◌then◌else◌, refl}
 use Rattle.std.specs.List.{position_or_len, last_or}
 use Rattle.std.specs.Str.{bytes_eq}
 use Rattle.std.proofs.Common.{sym, ap, ◌∙◌, arith, ltb-true, get_or}
 use Rattle.std.proofs.lemmas.Bool.{ltb-false}
-use Rattle.std.proofs.lemmas.Option.{none-some, slice_get_past, slice_get_within, slice_get-get_or, slice_get-map}
+use Rattle.std.proofs.lemmas.Option.{none-some, slice_get_past, slice_get-get_or}
 use Rattle.std.proofs.lemmas.List.Folds.{find_at}
 use Rattle.frp_tree.specs.declared.syntax.Event.{Event}
 use Rattle.frp_tree.specs.declared.syntax.Lit.{Lit}

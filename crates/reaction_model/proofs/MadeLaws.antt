@@ -1,6 +1,6 @@
 -- Rows of values that are made one definition or output after the other.
-use Rattle.std.specs.Prelude.{◌≡◌, ℕ, ◌+◌, ◌%◌, ◌<◌, Bool, true, false, List, [], ◌∷◌, ◌++◌, map, filter, slice_get, flat_map, Option, Some, None, option_and_then, if◌then◌else◌, refl}
-use Rattle.std.specs.List.{AllByRecursion, list_any}
+use Rattle.std.specs.Prelude.{◌≡◌, ℕ, ◌+◌, Bool, true, false, List, [], ◌∷◌, ◌++◌, map, filter, slice_get, flat_map, Option, Some, None, option_and_then, if◌then◌else◌, refl}
+use Rattle.std.specs.List.{AllByRecursion}
 use Rattle.std.specs.Str.{bytes_eq}
 use Rattle.std.proofs.Common.{sym, ap, subst, ◌∙◌, arith, take}
 use Rattle.std.proofs.Math.Nat.{mod-eq_of_lt, mod-lt}
@@ -15,11 +15,11 @@ use Rattle.frp_tree.specs.declared.syntax.Ty.TheVariants as ty
 use Rattle.frp_tree.specs.declared.syntax.Value.{Value}
 use Rattle.frp_tree.specs.Literals.{lit_value_of}
 use Rattle.frp_tree.specs.Tree.{Tree, ClauseTree, BehaviourTree, Plain, Input, Table, Reactive, DeclTree, OutputTree, ProgramTree}
-use Rattle.efrp_meaning.specs.Decls.{decl_named, is_table, is_reactive, reactive_decls}
-use Rattle.efrp_meaning.specs.Types.{literal_type, type_of, type_of_name, value_type, IsTypedAs, IsTyped}
-use Rattle.efrp_meaning.specs.Values.{number_of, literal_number, modulus}
-use Rattle.efrp_meaning.specs.Needs.{names_in, IsNamedIn, clause_for}
-use Rattle.efrp_meaning.specs.Meaning.{State, Samples, map_two, all_defined, old_state, Later, Now, clause_rule, rule_on, evaluate, stands_for, value_by, value_on, expression_on, depth, new_state_by, new_state, port_values, first_state_of, initial_state}
+use Rattle.efrp_meaning.specs.Decls.{decl_named, is_table, is_reactive}
+use Rattle.efrp_meaning.specs.Types.{type_of, type_of_name, value_type, IsTypedAs, IsTyped}
+use Rattle.efrp_meaning.specs.Values.{literal_number}
+use Rattle.efrp_meaning.specs.Needs.{clause_for}
+use Rattle.efrp_meaning.specs.Meaning.{State, Samples, map_two, all_defined, old_state, Later, Now, clause_rule, rule_on, stands_for, value_by, value_on, expression_on, depth, new_state_by, new_state, port_values, first_state_of, initial_state}
 use Rattle.efrp_meaning.specs.States.{NamesDiffer}
 use Rattle.efrp_meaning.proofs.TypedValueLaws.{FoundTyped, decl-typed}
 use Rattle.efrp_meaning.proofs.DefinedLaws.{ClauseTyped, clause-typed}
@@ -31,7 +31,7 @@ use Rattle.reaction_model.specs.Stands.{IsValue, AreValues}
 use Rattle.reaction_model.proofs.LookupLaws.{named-at}
 use Rattle.reaction_model.proofs.OperatorLaws.{number-is}
 use Rattle.reaction_model.proofs.EvaluateLaws.{literal-is, value-is}
-use Rattle.reaction_model.proofs.NumberLaws.{number-at, name-finds, IsAt, by-number}
+use Rattle.reaction_model.proofs.NumberLaws.{number-at, name-finds, by-number}
 use Rattle.reaction_model.proofs.SettledLaws.{at}
 
 -- Each is the value of the type and the number at its place.

@@ -1,5 +1,5 @@
 -- Where what stands at each number of an order so far is the definition's value, the next one's rule gives its value too.
-use Rattle.std.specs.Prelude.{◌≡◌, ℕ, ◌+◌, ◌<◌, ◌≢◌, suc, zero, Bool, true, false, not, ◌||◌, ◌==◌, List, [], ◌∷◌, ◌++◌, length, map, filter, count_by, slice_get, unwrap_or, Option, Some, None, option_and_then, if◌then◌else◌, refl}
+use Rattle.std.specs.Prelude.{◌≡◌, ℕ, ◌+◌, ◌<◌, ◌≢◌, suc, Bool, true, false, not, ◌||◌, ◌==◌, List, [], ◌∷◌, ◌++◌, length, filter, count_by, slice_get, Option, Some, None, option_and_then, if◌then◌else◌, refl}
 use Rattle.std.specs.List.{list_any}
 use Rattle.std.specs.Str.{bytes_eq}
 use Rattle.std.proofs.Common.{sym, ap, subst, ◌∙◌, arith, get_or, take, drop, drop-cons, eq-eqb}
@@ -27,7 +27,7 @@ use Rattle.causality.specs.Orders.{is_among, IsOrder}
 use Rattle.reaction_model.specs.Values.{nothing, value_or_nothing, value_named, value_of, settled_by}
 use Rattle.reaction_model.specs.Stands.{IsValue, AreGiven, AreValues}
 use Rattle.reaction_model.proofs.EvaluateLaws.{value-is}
-use Rattle.reaction_model.proofs.NumberLaws.{each-at, number-at, name-finds, IsAt, by-number, has, one-is-some, not-before}
+use Rattle.reaction_model.proofs.NumberLaws.{each-at, number-at, name-finds, by-number, has, one-is-some, not-before}
 
 -- What stands at a number.
 abbrev pub at : List Value → ℕ → Value

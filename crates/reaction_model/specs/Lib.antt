@@ -1,3 +1,4 @@
+pub mod Reactions
 pub mod Stands
 pub mod States
 pub mod Values

@@ -1,9 +1,7 @@
 -- Values of expressions in memory, over those that stand at the numbers of definitions.
-use Rattle.std.specs.Prelude.{◌≡◌, ℕ, ◌%◌, Bool, true, false, if◌then◌else◌, min, List, [], ◌∷◌, ◌++◌, map, filter, slice_get, unwrap_or, Option, Some, None, option_and_then}
-use Rattle.std.specs.List.{flat_map}
+use Rattle.std.specs.Prelude.{ℕ, ◌%◌, false, if◌then◌else◌, min, List, [], ◌∷◌, slice_get, unwrap_or, Option, Some, None, option_and_then}
 use Rattle.frp_tree.specs.declared.syntax.Ty.{Ty}
 use Rattle.frp_tree.specs.declared.syntax.Ty.TheVariants as ty
-use Rattle.frp_tree.specs.declared.syntax.Lit.{Lit}
 use Rattle.frp_tree.specs.declared.syntax.Value.{Value}
 use Rattle.frp_tree.specs.declared.syntax.Value.TheVariants as value
 use Rattle.frp_tree.specs.declared.syntax.UnOp.{UnOp}
@@ -12,10 +10,10 @@ use Rattle.frp_tree.specs.declared.syntax.BinOp.{BinOp}
 use Rattle.frp_tree.specs.declared.syntax.BinOp.TheVariants.{BitOr, BitXor, BitAnd, Add, Sub, Mul, Div, Rem}
 use Rattle.frp_tree.specs.declared.syntax.Side.{Side}
 use Rattle.frp_tree.specs.Literals.{lit_value_of}
-use Rattle.frp_tree.specs.Tree.{Tree, Const, Name, Unary, Binary, Shift, If, Convert, Look, BehaviourTree, Plain, Input, Table, Reactive, DeclTree, ProgramTree}
+use Rattle.frp_tree.specs.Tree.{Tree, Const, Name, Unary, Binary, Shift, If, Convert, Look, BehaviourTree, Plain, Input, Table, Reactive, ProgramTree}
 use Rattle.efrp_meaning.specs.Decls.{table_named}
 use Rattle.efrp_meaning.specs.Values.{modulus, holds, number_of, unary_value, binary_value, shift_value, entry_at}
-use Rattle.efrp_meaning.specs.Meaning.{Rule, Always, Sampled, Tabled, Now, Later, Stays, rule_on}
+use Rattle.efrp_meaning.specs.Meaning.{Rule, Always, Sampled, Tabled, Now, Later, Stays}
 use Rattle.efrp_types.specs.Numbers.{decl_number}
 
 abbrev pub type_of_value : Value → Ty

@@ -38,7 +38,7 @@ fn sample(samples: &[u8], n: usize) -> Value
 
 /// For each definition, at its number, its old state or what it reads, and nothing for one that is neither reactive nor
 /// an input.
-pub fn given(
+fn given(
     alloc: Global,
     typed: &Typed,
     states: &[Value],
@@ -68,7 +68,7 @@ pub fn given(
 }
 
 /// Follows the rule of each definition, in this order.
-pub fn settle(typed: &Typed, event: &Text, order: &[u8], values: &mut [Value])
+fn settle(typed: &Typed, event: &Text, order: &[u8], values: &mut [Value])
     requires causal { IsCausalOn (program_tree_of typed.now.program) event.now }
     requires ordered { IsOrder (program_tree_of typed.now.program) event.now order.now }
     requires for_each { length values.old ≡ length typed.now.program.decls }
@@ -80,6 +80,26 @@ pub fn settle(typed: &Typed, event: &Text, order: &[u8], values: &mut [Value])
         let value = settled_by(typed, values, values[i], event, &decls[i].behaviour);
         values[i] = value;
     }
+}
+
+/// For each definition, at its number, its value on an event, and nothing for a table.
+pub fn values_on(
+    alloc: Global,
+    typed: &Typed,
+    event: &Text,
+    order: &[u8],
+    states: &[Value],
+    samples: &[u8],
+) -> Result<Vec<Value>, AllocError>
+    requires has_types { HasTypes (program_tree_of typed.now.program) states.now }
+    requires are_samples { AreSamples (program_tree_of typed.now.program) samples.now }
+    requires causal { IsCausalOn (program_tree_of typed.now.program) event.now }
+    requires ordered { IsOrder (program_tree_of typed.now.program) event.now order.now }
+    ensures { IfOk result (λ v. AreValues (program_tree_of typed.now.program) (numbers_of states.now) samples.now event.now v.items) }
+{
+    let mut values = given(alloc, typed, states, samples)?;
+    settle(typed, event, order, values.as_mut_slice());
+    Ok(values)
 }
 
 /// The new states, in declaration order, where the values of the event stand at the numbers of the definitions.
@@ -94,7 +114,14 @@ pub fn new_states(
     let mut states = List::new(alloc);
     let decls = typed.program().decls.as_slice();
     for i in 0..decls.len() {
-        add_new_state(&mut states, typed, values, at(values, i), event, &decls[i].behaviour)?;
+        add_new_state(
+            &mut states,
+            typed,
+            values,
+            at(values, i),
+            event,
+            &decls[i].behaviour,
+        )?;
     }
     Ok(states)
 }

@@ -4,12 +4,14 @@ ghost use Rattle.frp_tree.specs.Tree.{program_tree_of};
 ghost use Rattle.efrp_meaning.specs.Decls.{inputs_of};
 ghost use Rattle.efrp_meaning.specs.Meaning.{initial_state, react};
 ghost use Rattle.efrp_types.specs.Numbers.{event_name};
+ghost use Rattle.reaction_model.specs.Reactions.{IsReactionBy};
 ghost use Rattle.reaction_model.specs.States.{HasTypes, numbers_of};
 
 use crate::lookups::event_name;
-use crate::passes::{first_states, given, new_states, port_bytes, settle};
+use crate::passes::{first_states, new_states, port_bytes, values_on};
 use causality::Checked;
-use frp_tree::{List, Value};
+use efrp_types::Typed;
+use frp_tree::{List, Text, Value};
 use std::alloc::{AllocError, Global};
 
 /// A value for each reactive definition, in declaration order.
@@ -34,6 +36,22 @@ pub fn initial(alloc: Global, c: &Checked) -> Result<State, AllocError>
     })
 }
 
+/// The reaction to an event whose values stand at the numbers of the definitions.
+fn reaction_of(
+    alloc: Global,
+    typed: &Typed,
+    event: &Text,
+    values: &[Value],
+) -> Result<Reaction, AllocError>
+    ensures { IfOk result (λ r. IsReactionBy (program_tree_of typed.now.program) event.now values.now r) }
+{
+    let state = State {
+        values: new_states(alloc, typed, event, values)?,
+    };
+    let ports = port_bytes(alloc, typed, values)?;
+    Ok(Reaction { state, ports })
+}
+
 /// The reaction to the event with this number, from a state that has the types of the program, with a byte for each input
 /// in declaration order. An `Err` is out of memory. The time is in proportion to the program's length.
 pub fn react(
@@ -50,11 +68,7 @@ pub fn react(
 {
     let typed = c.typed();
     let name = event_name(typed.program(), event);
-    let mut values = given(alloc, typed, s.values.as_slice(), samples)?;
-    settle(typed, name, c.order(event), values.as_mut_slice());
-    let state = State {
-        values: new_states(alloc, typed, name, values.as_slice())?,
-    };
-    let ports = port_bytes(alloc, typed, values.as_slice())?;
-    Ok(Reaction { state, ports })
+    let states = s.values.as_slice();
+    let values = values_on(alloc, typed, name, c.order(event), states, samples)?;
+    reaction_of(alloc, typed, name, values.as_slice())
 }

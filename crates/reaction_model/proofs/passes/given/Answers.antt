@@ -37,24 +37,24 @@ loop-d-preserved c =
     let d = c.d-item.result in
     elim c.match-d.branch [
       | in-Reactive+in_ok-push-in-Reactive w ↦ record {
-          few_states = omega (arith, w.state-is, c.loop-d.invariant.few_states);
-          few_inputs = omega (arith, w.input-is, c.loop-d.invariant.few_inputs);
-          laid_out = moved items vs js _ c.match-d.values.items (k + 1) (m + 1) c.match-d.state i c.match-d.input
+        few_states = omega (arith, w.state-is, c.loop-d.invariant.few_states);
+        few_inputs = omega (arith, w.input-is, c.loop-d.invariant.few_inputs);
+        laid_out = moved items vs js _ c.match-d.values.items (k + 1) (m + 1) c.match-d.state i c.match-d.input
             (ap (λ (v : Vec Value Global). v.items) w.values-is ∙ w.in_ok-push-in-Reactive.ensures.items ∙ ap (λ v. values ++ v ∷ []) w.at.ensures) w.state-is w.input-is
             (state-more items vs js values k m i d c.loop-d-test.true c.d-item.is c.loop-d.invariant.laid_out w.in-Reactive.init w.in-Reactive.clauses w.in-Reactive.is);
-        }
+      }
       | in-Input+in_ok-push-in-Input w ↦ record {
-          few_states = omega (arith, w.state-is, c.loop-d.invariant.few_states);
-          few_inputs = omega (arith, w.input-is, c.loop-d.invariant.few_inputs);
-          laid_out = moved items vs js _ c.match-d.values.items (k + 1) m c.match-d.state (i + 1) c.match-d.input
+        few_states = omega (arith, w.state-is, c.loop-d.invariant.few_states);
+        few_inputs = omega (arith, w.input-is, c.loop-d.invariant.few_inputs);
+        laid_out = moved items vs js _ c.match-d.values.items (k + 1) m c.match-d.state (i + 1) c.match-d.input
             (ap (λ (v : Vec Value Global). v.items) w.values-is ∙ w.in_ok-push-in-Input.ensures.items ∙ ap (λ v. values ++ v ∷ []) w.sample.ensures) w.state-is w.input-is
             (input-more items vs js values k m i d c.loop-d-test.true c.d-item.is c.loop-d.invariant.laid_out w.in-Input.field-0 w.in-Input.is);
-        }
+      }
       | in_default+in_ok-push-in_default w ↦ record {
-          few_states = omega (arith, w.state-is, c.loop-d.invariant.few_states);
-          few_inputs = omega (arith, w.input-is, c.loop-d.invariant.few_inputs);
-          laid_out = moved items vs js (values ++ nothing ∷ []) c.match-d.values.items (k + 1) m c.match-d.state i c.match-d.input
+        few_states = omega (arith, w.state-is, c.loop-d.invariant.few_states);
+        few_inputs = omega (arith, w.input-is, c.loop-d.invariant.few_inputs);
+        laid_out = moved items vs js (values ++ nothing ∷ []) c.match-d.values.items (k + 1) m c.match-d.state i c.match-d.input
             (ap (λ (v : Vec Value Global). v.items) w.values-is ∙ w.in_ok-push-in_default.ensures.items) w.state-is w.input-is
             (other-more items vs js values k m i d c.loop-d-test.true c.d-item.is c.loop-d.invariant.laid_out w.in_default.not-Reactive w.in_default.not-Input);
-        }
+      }
     ]

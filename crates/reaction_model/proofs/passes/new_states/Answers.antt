@@ -1,4 +1,4 @@
-use Rattle.std.specs.Prelude.{map, ◌+◌, ◌++◌}
+use Rattle.std.specs.Prelude.{◌+◌, ◌++◌}
 use Rattle.std.proofs.Common.{sym, ap, subst, take, ◌∙◌}
 use Rattle.frp_tree.specs.declared.syntax.Decl.{Decl}
 use Rattle.frp_tree.specs.declared.syntax.Program.{Program}

@@ -1,4 +1,3 @@
-use Rattle.std.specs.Prelude.{ℕ, List}
 use Rattle.std.proofs.Common.{take}
 use Rattle.frp_tree.specs.Tree.{program_tree_of}
 use Rattle.efrp_meaning.specs.Meaning.{Samples, State}

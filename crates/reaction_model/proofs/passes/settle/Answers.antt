@@ -1,4 +1,4 @@
-use Rattle.std.specs.Prelude.{◌<◌, ℕ, List}
+use Rattle.std.specs.Prelude.{◌<◌}
 use Rattle.std.proofs.Common.{sym, ap, subst, arith, length, get_or, ◌∙◌}
 use Rattle.std.proofs.lemmas.List.{length-map, length-set, take_all}
 use Rattle.std.proofs.lemmas.Option.{unwrap_or-slice_get}
@@ -41,9 +41,9 @@ loop-i-preserved c =
     let inside : i < length decls = omega (arith, mapped, lengths, within) in
     let found = tree-at decl_of decls typed.program.decls i d same inside c.index-decls-i.is in
     let is =
-        c.settled_by-value.ensures
-        ∙ ap (λ (e : Decl). settled_by p values (get_or values i nothing) (rule_on event (behaviour_of e.behaviour))) (sym c.index-decls-i.is)
-        ∙ ap (λ v. settled_by p values v (rule_on event (behaviour_of d.behaviour))) (sym (unwrap_or-slice_get values i nothing)) in (
+    c.settled_by-value.ensures
+    ∙ ap (λ (e : Decl). settled_by p values (get_or values i nothing) (rule_on event (behaviour_of e.behaviour))) (sym c.index-decls-i.is)
+    ∙ ap (λ v. settled_by p values v (rule_on event (behaviour_of d.behaviour))) (sym (unwrap_or-slice_get values i nothing)) in (
       length-set values i c.settled_by-value.result ∙ c.loop-i.invariant.0,
       λ s j state samples given.
           settles-more p (is-typed p typed.checked typed.formed) (names-differ p typed.checked) s state j samples event c.requires.causal order c.requires.ordered k c.loop-i-test.true (decl_of d) found values
