@@ -26,8 +26,8 @@ use Rattle.efrp_meaning.specs.States.{HasValue}
 use Rattle.efrp_meaning.proofs.TypedValueLaws.{FoundTyped, decl-typed, evaluate-typed}
 use Rattle.reaction_model.specs.Values.{value_or_nothing, entry_in, value_named, value_of}
 use Rattle.reaction_model.specs.Stands.{IsValue}
-use Rattle.reaction_model.proofs.LookupLaws.{last-at}
-use Rattle.reaction_model.proofs.NumberLaws.{each-at}
+use Rattle.reaction_model.proofs.LookupFacts.{last-at}
+use Rattle.reaction_model.proofs.NumberFacts.{each-at}
 use Rattle.reaction_model.proofs.OperatorLaws.{number-is, has-value, unary-is, binary-is, shift-is, if-is, convert-is}
 
 -- Literals.

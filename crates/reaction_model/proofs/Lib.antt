@@ -1,8 +1,9 @@
 pub mod EvaluateLaws
-pub mod GivenLaws
-pub mod LookupLaws
-pub mod MadeLaws
-pub mod NumberLaws
+pub mod GivenFacts
+pub mod LookupFacts
+pub mod MadeFacts
+pub mod NumberFacts
 pub mod OperatorLaws
-pub mod RowLaws
-pub mod SettledLaws
+pub mod RowFacts
+pub mod SettledFacts
+pub mod StateLaws

@@ -4,7 +4,7 @@ use Rattle.std.proofs.lemmas.Iterator.{YieldsList-from_slice}
 use Rattle.std.proofs.lemmas.Iterator.Search.{find_from_yields_List}
 use Rattle.frp_tree.specs.declared.syntax.Clause.{Clause}
 use Rattle.frp_tree.specs.Tree.{ClauseTree, clause_of}
-use Rattle.reaction_model.proofs.LookupLaws.{find-mapped}
+use Rattle.reaction_model.proofs.LookupFacts.{find-mapped}
 use Rattle.reaction_model.proofs.lookups.clause_for.Goals as goal
 
 pub returns : goal.returns

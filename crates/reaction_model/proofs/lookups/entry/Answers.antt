@@ -2,7 +2,7 @@ use Rattle.std.proofs.Common.{sym, ap, option_and_then, ltb-true, refl, ◌∙�
 use Rattle.std.proofs.lemmas.Option.{slice_get_read, slice_get_past}
 use Rattle.frp_tree.specs.Literals.{lit_value_of}
 use Rattle.reaction_model.specs.Values.{value_or_nothing}
-use Rattle.reaction_model.proofs.LookupLaws.{entry-within, entry-past}
+use Rattle.reaction_model.proofs.LookupFacts.{entry-within, entry-past}
 use Rattle.reaction_model.proofs.lookups.entry.Goals as goal
 
 pub returns-in-Some : goal.returns-in-Some

@@ -4,7 +4,7 @@ use Rattle.frp_tree.specs.Tree.{DeclTree, program_tree_of}
 use Rattle.efrp_meaning.specs.Decls.{entries_of}
 use Rattle.efrp_meaning.specs.Values.{entry_at}
 use Rattle.reaction_model.specs.Values.{value_or_nothing}
-use Rattle.reaction_model.proofs.LookupLaws.{named-at}
+use Rattle.reaction_model.proofs.LookupFacts.{named-at}
 use Rattle.reaction_model.proofs.lookups.entry_in.Goals as goal
 
 pub returns-in-Some : goal.returns-in-Some

@@ -1,5 +1,5 @@
 use Rattle.frp_tree.specs.Tree.{program_tree_of}
-use Rattle.reaction_model.proofs.LookupLaws.{event-at}
+use Rattle.reaction_model.proofs.LookupFacts.{event-at}
 use Rattle.reaction_model.proofs.lookups.event_name.Goals as goal
 
 pub returns : goal.returns

@@ -1,7 +1,7 @@
 use Rattle.std.proofs.Common.{sym, ap, option_and_then, ltb-true, ◌∙◌}
 use Rattle.frp_tree.specs.Literals.{lit_value_of}
 use Rattle.reaction_model.specs.Values.{value_or_nothing}
-use Rattle.reaction_model.proofs.LookupLaws.{last-at}
+use Rattle.reaction_model.proofs.LookupFacts.{last-at}
 use Rattle.reaction_model.proofs.lookups.last.Goals as goal
 
 pub returns-in-Some : goal.returns-in-Some

@@ -7,8 +7,8 @@ use Rattle.frp_tree.specs.Tree.{DeclTree, behaviour_of, decl_of, program_tree_of
 use Rattle.efrp_meaning.specs.Meaning.{initial_state}
 use Rattle.reaction_model.specs.States.{HasTypes, numbers_of}
 use Rattle.reaction_model.specs.Values.{first_values}
-use Rattle.reaction_model.proofs.RowLaws.{whole, is-typed}
-use Rattle.reaction_model.proofs.MadeLaws.{initial-is}
+use Rattle.reaction_model.proofs.RowFacts.{whole, is-typed}
+use Rattle.reaction_model.proofs.MadeFacts.{initial-is}
 use Rattle.reaction_model.proofs.passes.first_states.Goals as goal
 
 pub returns : goal.returns

@@ -7,8 +7,8 @@ use Rattle.frp_tree.specs.Tree.{decl_of, program_tree_of}
 use Rattle.reaction_model.specs.States.{numbers_of}
 use Rattle.reaction_model.specs.Values.{nothing}
 use Rattle.reaction_model.specs.Stands.{AreGiven}
-use Rattle.reaction_model.proofs.RowLaws.{names-differ}
-use Rattle.reaction_model.proofs.GivenLaws.{laid, laid-all, laid-is-given, length-laid, moved, state-more, input-more, other-more}
+use Rattle.reaction_model.proofs.RowFacts.{names-differ}
+use Rattle.reaction_model.proofs.GivenFacts.{laid, laid-all, laid-is-given, length-laid, moved, state-more, input-more, other-more}
 use Rattle.reaction_model.proofs.passes.given.Goals as goal
 use Rattle.reaction_model.proofs.passes.given.Goals.{in-Reactive+in_ok-push-in-Reactive, in-Input+in_ok-push-in-Input, in_default+in_ok-push-in_default}
 

@@ -1,7 +1,7 @@
 use Rattle.std.specs.Prelude.{◌≡◌, ◌≤◌, ◌++◌, map}
 use Rattle.std.proofs.Common.{drop}
 use Rattle.frp_tree.specs.Tree.{decl_of}
-use Rattle.reaction_model.proofs.GivenLaws.{laid}
+use Rattle.reaction_model.proofs.GivenFacts.{laid}
 use Rattle.reaction_model.proofs.passes.given.Given as goal
 
 abbrev pub invariant-loop-d : goal.invariant-loop-d

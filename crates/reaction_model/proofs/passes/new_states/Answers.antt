@@ -5,8 +5,8 @@ use Rattle.frp_tree.specs.declared.syntax.Program.{Program}
 use Rattle.frp_tree.specs.Tree.{behaviour_of, decl_of, program_tree_of}
 use Rattle.efrp_meaning.specs.Meaning.{rule_on}
 use Rattle.reaction_model.specs.Values.{new_values_by}
-use Rattle.reaction_model.proofs.RowLaws.{tree-at, whole-trees, is-typed, names-differ}
-use Rattle.reaction_model.proofs.MadeLaws.{Made, state_types, new_of, new-more, new-state-is}
+use Rattle.reaction_model.proofs.RowFacts.{tree-at, whole-trees, is-typed, names-differ}
+use Rattle.reaction_model.proofs.MadeFacts.{Made, state_types, new_of, new-more, new-state-is}
 use Rattle.reaction_model.proofs.passes.new_states.Goals as goal
 
 pub returns : goal.returns

@@ -2,7 +2,7 @@ use Rattle.std.proofs.Common.{take}
 use Rattle.frp_tree.specs.Tree.{program_tree_of}
 use Rattle.efrp_meaning.specs.Meaning.{Samples, State}
 use Rattle.reaction_model.specs.Stands.{AreValues}
-use Rattle.reaction_model.proofs.MadeLaws.{Made, state_types, new_of}
+use Rattle.reaction_model.proofs.MadeFacts.{Made, state_types, new_of}
 use Rattle.reaction_model.proofs.passes.new_states.Given as goal
 
 abbrev pub invariant-loop-i : goal.invariant-loop-i

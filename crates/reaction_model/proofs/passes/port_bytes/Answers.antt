@@ -5,7 +5,7 @@ use Rattle.frp_tree.specs.declared.syntax.Output.{Output}
 use Rattle.frp_tree.specs.declared.syntax.Program.{Program}
 use Rattle.frp_tree.specs.Tree.{OutputTree, output_of, program_tree_of, tree_of}
 use Rattle.reaction_model.specs.Values.{byte_of, value_of}
-use Rattle.reaction_model.proofs.RowLaws.{whole}
+use Rattle.reaction_model.proofs.RowFacts.{whole}
 use Rattle.reaction_model.proofs.passes.port_bytes.Goals as goal
 
 pub returns : goal.returns

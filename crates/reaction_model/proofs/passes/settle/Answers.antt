@@ -7,8 +7,8 @@ use Rattle.frp_tree.specs.declared.syntax.Program.{Program}
 use Rattle.frp_tree.specs.Tree.{behaviour_of, decl_of, program_tree_of}
 use Rattle.efrp_meaning.specs.Meaning.{rule_on}
 use Rattle.reaction_model.specs.Values.{nothing, settled_by}
-use Rattle.reaction_model.proofs.RowLaws.{tree-at, is-typed, names-differ}
-use Rattle.reaction_model.proofs.SettledLaws.{AreSettled, begins, number-within, settled-all, settles-more}
+use Rattle.reaction_model.proofs.RowFacts.{tree-at, is-typed, names-differ}
+use Rattle.reaction_model.proofs.SettledFacts.{AreSettled, begins, number-within, settled-all, settles-more}
 use Rattle.reaction_model.proofs.passes.settle.Goals as goal
 
 pub returns : goal.returns

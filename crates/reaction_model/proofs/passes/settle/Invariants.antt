@@ -3,7 +3,7 @@ use Rattle.frp_tree.specs.Tree.{program_tree_of}
 use Rattle.efrp_meaning.specs.Meaning.{Samples, State}
 use Rattle.efrp_meaning.specs.States.{AreSamples, IsState}
 use Rattle.reaction_model.specs.Stands.{AreGiven}
-use Rattle.reaction_model.proofs.SettledLaws.{AreSettled}
+use Rattle.reaction_model.proofs.SettledFacts.{AreSettled}
 use Rattle.reaction_model.proofs.passes.settle.Given as goal
 
 abbrev pub invariant-loop-i : goal.invariant-loop-i

@@ -2,7 +2,8 @@ use Rattle.std.proofs.Common.{ap, sym, subst, ◌∙◌, length}
 use Rattle.frp_tree.specs.Tree.{program_tree_of}
 use Rattle.reaction_model.specs.States.{numbers_of}
 use Rattle.reaction_model.specs.Stands.{AreGiven, AreValues}
-use Rattle.reaction_model.proofs.RowLaws.{types-are-a-state, written-back}
+use Rattle.reaction_model.proofs.RowFacts.{written-back}
+use Rattle.reaction_model.proofs.StateLaws.{types-are-a-state}
 use Rattle.reaction_model.proofs.passes.values_on.Goals as goal
 
 pub returns : goal.returns

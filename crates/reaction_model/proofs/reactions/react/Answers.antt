@@ -10,7 +10,8 @@ use Rattle.efrp_types.specs.declared.typed.Typed.{Typed}
 use Rattle.reaction_model.specs.States.{numbers_of}
 use Rattle.reaction_model.specs.Reactions.{IsReaction, IsReactionBy}
 use Rattle.reaction_model.specs.Stands.{AreValues}
-use Rattle.reaction_model.proofs.RowLaws.{bytes-are-samples, causal-at}
+use Rattle.reaction_model.proofs.RowFacts.{causal-at}
+use Rattle.reaction_model.proofs.StateLaws.{bytes-are-samples}
 use Rattle.reaction_model.proofs.reactions.react.Goals as goal
 
 pub values_on-requires-clause-are_samples : goal.values_on-requires-clause-are_samples

@@ -2,8 +2,8 @@ use Rattle.std.specs.Prelude.{Some}
 use Rattle.std.proofs.Common.{ap, sym, ◌∙◌}
 use Rattle.frp_tree.specs.Tree.{program_tree_of}
 use Rattle.reaction_model.specs.States.{numbers_of}
-use Rattle.reaction_model.proofs.RowLaws.{is-typed, names-differ, reacts}
-use Rattle.reaction_model.proofs.MadeLaws.{port-values-are}
+use Rattle.reaction_model.proofs.RowFacts.{is-typed, names-differ, reacts}
+use Rattle.reaction_model.proofs.MadeFacts.{port-values-are}
 use Rattle.reaction_model.proofs.reactions.reaction_of.Goals as goal
 
 pub returns : goal.returns

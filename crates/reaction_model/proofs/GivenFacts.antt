@@ -26,8 +26,8 @@ use Rattle.efrp_meaning.specs.States.{AreValuesOf, AreSamples, NamesDiffer}
 use Rattle.reaction_model.specs.States.{IsOf, AreOf, HasTypes, numbers_of}
 use Rattle.reaction_model.specs.Values.{nothing, sample_or_nothing, sample_value, value_or_nothing}
 use Rattle.reaction_model.specs.Stands.{IsValue, AreGiven}
-use Rattle.reaction_model.proofs.NumberLaws.{same-bytes, names, other-name, tail-differs}
-use Rattle.reaction_model.proofs.SettledLaws.{at}
+use Rattle.reaction_model.proofs.NumberFacts.{same-bytes, names, other-name, tail-differs}
+use Rattle.reaction_model.proofs.SettledFacts.{at}
 
 -- The first of a row, and those after it.
 abbrev pub first : List Value → Value

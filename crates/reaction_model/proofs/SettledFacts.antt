@@ -27,7 +27,7 @@ use Rattle.causality.specs.Orders.{is_among, IsOrder}
 use Rattle.reaction_model.specs.Values.{nothing, value_or_nothing, value_named, value_of, settled_by}
 use Rattle.reaction_model.specs.Stands.{IsValue, AreGiven, AreValues}
 use Rattle.reaction_model.proofs.EvaluateLaws.{value-is}
-use Rattle.reaction_model.proofs.NumberLaws.{each-at, number-at, name-finds, by-number, has, one-is-some, not-before}
+use Rattle.reaction_model.proofs.NumberFacts.{each-at, number-at, name-finds, by-number, has, one-is-some, not-before}
 
 -- What stands at a number.
 abbrev pub at : List Value → ℕ → Value

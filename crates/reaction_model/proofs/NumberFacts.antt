@@ -13,7 +13,7 @@ use Rattle.frp_tree.specs.Tree.{Input, DeclTree, ProgramTree}
 use Rattle.efrp_meaning.specs.Decls.{decl_named}
 use Rattle.efrp_meaning.specs.States.{NamesDiffer}
 use Rattle.efrp_types.specs.Numbers.{decl_number}
-use Rattle.reaction_model.proofs.LookupLaws.{named-at}
+use Rattle.reaction_model.proofs.LookupFacts.{named-at}
 
 -- What holds of each holds of the one at a place.
 pub each-at : {A : Type 0} (P : A → Type 0) (xs : List A) (i : ℕ) (x : A) → AllByRecursion P xs → slice_get xs i ≡ Some x → P x

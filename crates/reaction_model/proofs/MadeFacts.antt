@@ -28,11 +28,11 @@ use Rattle.efrp_types.specs.Numbers.{decl_number}
 use Rattle.reaction_model.specs.States.{IsOf, AreOf, HasTypes, numbers_of}
 use Rattle.reaction_model.specs.Values.{value_in, value_or_nothing, value_named, value_of, new_values_by, first_values, byte_of}
 use Rattle.reaction_model.specs.Stands.{IsValue, AreValues}
-use Rattle.reaction_model.proofs.LookupLaws.{named-at}
+use Rattle.reaction_model.proofs.LookupFacts.{named-at}
 use Rattle.reaction_model.proofs.OperatorLaws.{number-is}
 use Rattle.reaction_model.proofs.EvaluateLaws.{literal-is, value-is}
-use Rattle.reaction_model.proofs.NumberLaws.{number-at, name-finds, by-number}
-use Rattle.reaction_model.proofs.SettledLaws.{at}
+use Rattle.reaction_model.proofs.NumberFacts.{number-at, name-finds, by-number}
+use Rattle.reaction_model.proofs.SettledFacts.{at}
 
 -- Each is the value of the type and the number at its place.
 abbrev pub Made : List Ty → List (Option ℕ) → List Value → Type 0
