@@ -1,4 +1,3 @@
--- Scripts, traces and models, computed.
-pub mod Models
+-- Scripts and traces, computed.
 pub mod Scripts
 pub mod Traces

@@ -1,7 +1,5 @@
 pub mod Drafts
 pub mod Entries
-pub mod Events
-pub mod Model
 pub mod Running
 pub mod Scripts
 pub mod Sends

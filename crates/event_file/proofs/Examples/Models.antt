@@ -7,8 +7,8 @@ use Rattle.frp_tree.specs.declared.syntax.BinOp.TheVariants.{Gt}
 use Rattle.frp_tree.specs.Tree.{Name, Binary, If, Input, ProgramTree}
 use Rattle.efrp_meaning.specs.Meaning.{Occurrence}
 use Rattle.efrp_meaning.proofs.Examples.Programs.{event, clause, reactive, output, delayed, doubling, cycle, tick, go}
-use Rattle.arrival_script.specs.Events.{events_of, first_unknown}
-use Rattle.arrival_script.specs.Model.{model_text}
+use Rattle.event_file.specs.Events.{events_of, first_unknown}
+use Rattle.event_file.specs.Model.{model_text}
 
 -- An event in a program without inputs.
 abbrev bare : List ℕ → Occurrence

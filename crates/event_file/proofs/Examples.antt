@@ -1,0 +1,2 @@
+-- Events files and models, computed.
+pub mod Models

@@ -1,0 +1,5 @@
+pub mod Examples
+pub mod FieldFacts
+pub mod SpaceFacts
+pub mod LineFacts
+pub mod ReadFacts
