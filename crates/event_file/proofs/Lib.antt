@@ -3,3 +3,5 @@ pub mod FieldFacts
 pub mod SpaceFacts
 pub mod LineFacts
 pub mod ReadFacts
+pub mod ModelFacts
+pub mod ReadLaws
