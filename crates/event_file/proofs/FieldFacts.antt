@@ -31,7 +31,7 @@ pub gives-front : (field : List ℕ) (input : DeclTree) → gives field input �
 gives-front field input =
     ap (λ n. bytes_eq (take n field) (input.name ++ codes "=") && is_byte (drop n field)) (add-one (length input.name)) ∙ front input.name field
 
--- What stands behind one byte more.
+-- What stands after one byte more.
 pub drop-more : (n : ℕ) (xs : List ℕ) → drop (suc n) xs ≡ drop 1 (drop n xs)
 drop-more zero xs = refl
 drop-more (suc n) [] = refl

@@ -20,7 +20,7 @@ told_in texts = filter is_some_text texts
 abbrev events_in : ProgramTree → List (List ℕ) → List Occurrence
 events_in p texts = flat_map (stated p) (told_in texts)
 
--- What is known of a text where this rest is left, behind this many lines, none of them unknown: the events of these lines are
+-- What is known of a text where this rest is left, after this many lines, none of them unknown: the events of these lines are
 -- kept, all of them where they are n + 1 at most.
 pub record ReadSoFar (p : ProgramTree) (n : ℕ) (bytes rest : List ℕ) (count : ℕ) (events : List Found) : Type 0 where
   pub seen : List Occurrence

@@ -33,7 +33,7 @@ Gives field input found = MatchOption found (gives field input ≡ false) (λ by
 abbrev pub samples_for : DeclTree → List (List ℕ) → List (List ℕ)
 samples_for input fields = filter (λ field. gives field input) fields
 
--- The first of them gives this byte, and those behind it are among these fields.
+-- The first of them gives this byte, and those after it are among these fields.
 pub record IsFirst (fields : List (List ℕ)) (input : DeclTree) (byte : ℕ) (rest : List (List ℕ)) : Type 0 where
   pub field : List ℕ
   pub split : samples_for input fields ≡ field ∷ samples_for input rest

@@ -12,7 +12,7 @@ use frp_tree::{Behaviour, Decl, List};
 use std::alloc::{AllocError, Global};
 use text_parts::{byte_in, next_field};
 
-/// Whether it is an input.
+// Whether it is an input.
 fn is_input(behaviour: &Behaviour) -> bool
     ensures { result ≡ is_input (behaviour_of behaviour.now) }
 {
@@ -22,7 +22,7 @@ fn is_input(behaviour: &Behaviour) -> bool
     }
 }
 
-// The byte whose two digits stand behind `=`.
+// The byte whose two digits stand after `=`.
 fn value_of(text: &[u8]) -> Option<u8>
     ensures { ValueOf text.now result }
 {
@@ -71,7 +71,7 @@ pub(crate) fn are_samples(decls: &[Decl], text: &[u8]) -> bool
     true
 }
 
-// The byte that the first field to do so gives to an input, and the text behind that field.
+// The byte that the first field to do so gives to an input, and the text after that field.
 fn first_given<'a>(text: &'a [u8], d: &Decl) -> Option<(u8, &'a [u8])>
     ensures { MatchOption result (samples_for (decl_of d.now) (fields_of text.now) ≡ []) (λ found. IsFirst (fields_of text.now) (decl_of d.now) found.0 (fields_of found.1.now)) }
 {
@@ -85,7 +85,7 @@ fn first_given<'a>(text: &'a [u8], d: &Decl) -> Option<(u8, &'a [u8])>
     None
 }
 
-/// The byte that the fields of a text give to an input, which is 00 where none does. None exactly where two do.
+// The byte that the fields of a text give to an input, which is 00 where none does. None exactly where two do.
 fn sample_of(text: &[u8], d: &Decl) -> Option<u8>
     ensures { SampleOf (fields_of text.now) (decl_of d.now) result }
 {
