@@ -1,9 +1,10 @@
 -- Sums, differences and turns of bytes, as equations between numbers.
-use Rattle.std.proofs.Common.{◌≡◌, ◌+◌, ◌-◌, ◌*◌, ◌%◌, Bool, true, false, not, ◌&&◌, nat_lt, nat_le, refl, arith}
-use borrow.Author.Tests.{leb-true, leb-false, ltb-true, ltb-false}
-use Rattle.pic_regs.specs.Bytes.{Byte, num, bits, one_if, swapped}
-use Rattle.pic_regs.proofs.ByteLaws.{num-bits, num-below, one_if-small}
-use Rattle.pic_machine.specs.Results.{plus, minus, turned_left, turned_right, both}
+use Rattle.std.proofs.Common.{◌≡◌, ◌+◌, ◌-◌, ◌*◌, ◌%◌, Bool, true, false, not, ◌&&◌, nat_lt, nat_le, ◌==◌, refl, ap, ◌∙◌, arith}
+use borrow.Author.Tests.{leb-true, leb-false, ltb-true, ltb-false, eqb-true, eqb-false}
+use Rattle.pic_regs.specs.Bytes.{Byte, num, bits, one_if, swapped, is_zero}
+use Rattle.pic_regs.proofs.ByteLaws.{num-bits, num-below, one_if-small, bits-num}
+use Rattle.pic_regs.proofs.BitLaws.{zero-bits}
+use Rattle.pic_machine.specs.Results.{plus, minus, turned_left, turned_right, both, one_more}
 
 pub plus-num : (x y : Byte) → num (plus x y).byte ≡ (num x + num y) % 256
 plus-num x y = num-bits (num x + num y)
@@ -42,3 +43,14 @@ plus-carry x y = by_carry (nat_lt 255 (num x + num y)) refl
     by_carry : (b : Bool) → nat_lt 255 (num x + num y) ≡ b → num (plus x y).byte + 256 * one_if b ≡ num x + num y
     by_carry true e = omega (arith, num-bits (num x + num y), num-below x, num-below y, ltb-true 255 (num x + num y) e)
     by_carry false e = omega (arith, num-bits (num x + num y), num-below x, num-below y, ltb-false 255 (num x + num y) e)
+
+-- A byte that is 0, and one that isn't.
+zero_test : (x : Byte) → (num x == 0) ≡ is_zero x
+zero_test x = zero-bits (num x) (num-below x) ∙ ap is_zero (bits-num x)
+
+-- The byte after this one is 0 where this one is 255, and else one more.
+pub full : (x : Byte) → is_zero (one_more x) ≡ true → num x ≡ 255
+full x e = omega (arith, eqb-true (num (one_more x)) 0 (zero_test (one_more x) ∙ e), num-bits (num x + 1), num-below x)
+
+pub not_full : (x : Byte) → is_zero (one_more x) ≡ false → num (one_more x) ≡ num x + 1
+not_full x e = let some = eqb-false (num (one_more x)) 0 (zero_test (one_more x) ∙ e) in omega (arith, some, num-bits (num x + 1), num-below x)

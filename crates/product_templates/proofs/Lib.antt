@@ -5,3 +5,6 @@ pub mod WeighingFacts
 pub mod CoreFacts
 pub mod ProductFacts
 pub mod EachFacts
+pub mod DivisionFacts
+pub mod QuotientFacts
+pub mod WideQuotientFacts

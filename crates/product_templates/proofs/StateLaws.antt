@@ -1,9 +1,10 @@
 -- Runs of acts: one list after another, and bytes that no act of a list writes.
-use Rattle.std.proofs.Common.{◌≡◌, ℕ, Bool, true, false, None, List, ◌++◌, refl, sym, subst}
+use Rattle.std.proofs.Common.{◌≡◌, ℕ, zero, suc, ◌*◌, ◌≤◌, Bool, true, false, None, List, [], ◌++◌, refl, sym, subst, arith}
 use Rattle.pic_regs.specs.Bytes.{Byte}
 use Rattle.code_acts.specs.declared.acts.Act.{Act}
 use Rattle.code_acts.specs.Acts.{State, run}
 use Rattle.code_acts.specs.Codes.{sound}
+use Rattle.product_templates.specs.Templates.{repeated}
 use Rattle.code_acts.proofs.RunLaws.{run-append, run_keeps}
 
 -- The state with these parts and no skip pending.
@@ -39,3 +40,20 @@ ran-keeps uses writes n acts s sounds missed = run_keeps uses writes None false 
 -- The bytes of any acts are used.
 abbrev pub any : ℕ → Bool
 any n = true
+
+-- A number doubled so many times.
+abbrev pub doubled : ℕ → ℕ → ℕ
+doubled zero p = p
+doubled (suc k) p = doubled k (2 * p)
+
+doubled-more : (k p : ℕ) → p ≤ doubled k p
+doubled-more zero p = omega arith
+doubled-more (suc k) p = omega (arith, doubled-more k (2 * p))
+
+-- What holds at p before acts holds at 2 * p after them, where that is at most m; so it does after them so many times.
+pub iterate : (P : ℕ → State → Type 0) (m : ℕ) (acts : List Act) → ((p : ℕ) (s : State) → 2 * p ≤ m → P p s → P (2 * p) (ran acts s))
+    → (k p : ℕ) (s : State) → doubled k p ≤ m → P p s → P (doubled k p) (ran (repeated k acts) s)
+iterate P m acts step zero p s room h = subst (λ (t : State). P p t) (sym (ran-is [] s)) h
+iterate P m acts step (suc k) p s room h =
+    in_parts (λ t. P (doubled k (2 * p)) t) acts (repeated k acts) s
+    (iterate P m acts step k (2 * p) (ran acts s) room (step p s (omega (arith, room, doubled-more k (2 * p))) h))

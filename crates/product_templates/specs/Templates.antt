@@ -41,23 +41,37 @@ long_product =
     (File Mov Operand0 W ∷ Clear Operand4 ∷ Clear Operand5 ∷ MakeCarry false ∷ [])
     ++ carrying 0 ++ carrying 1 ++ carrying 2 ++ carrying 3 ++ carrying 4 ++ carrying 5 ++ carrying 6 ++ carrying 7
 
--- One bit of a quotient: the dividend Operand0 gives its highest bit to the rest Operand4, from which the divisor Operand3 is
--- taken where it fits. C is the bit of the quotient, and the next turn shifts it into the dividend. Bit 0 of Operand8 is the ninth
--- bit of the rest.
+-- One bit of a quotient. The dividend Operand0 gives its highest bit to the rest Operand4, whose ninth bit goes to bit 0 of
+-- Operand8. W is the rest less the divisor Operand3, and C is 1 where there was no borrow.
+abbrev pub comparing : List Act
+comparing = File Left Operand0 F ∷ File Left Operand4 F ∷ File Left Operand8 F ∷ File Mov Operand3 W ∷ File Sub Operand4 W ∷ []
+
+-- Where the divisor fits, since the rest has a ninth bit or there was no borrow, C is 1, and W the rest. C is the bit of the
+-- quotient, and the next turn shifts it into the dividend.
+abbrev pub keeping : List Act
+keeping = SkipBit false Operand8 0 ∷ MakeCarry true ∷ SkipCarry false ∷ Store Operand4 ∷ []
+
 abbrev pub turning : List Act
-turning =
-    File Left Operand0 F ∷ File Left Operand4 F ∷ File Left Operand8 F ∷ File Mov Operand3 W ∷ File Sub Operand4 W ∷ SkipBit false Operand8 0 ∷ MakeCarry true
-    ∷ SkipCarry false ∷ Store Operand4 ∷ []
+turning = comparing ++ keeping
 
 -- The like for 16 bits: dividend Operand0 and Operand1, divisor Operand2 and Operand3, rest Operand4 and Operand5, its difference
 -- from the divisor in Operand6 and Operand7, the seventeenth bit of the rest in Operand8.
-abbrev pub wide_turning : List Act
-wide_turning =
+abbrev pub wide_shifting : List Act
+wide_shifting =
     File Left Operand0 F ∷ File Left Operand1 F ∷ File Left Operand4 F ∷ File Left Operand5 F ∷ File Left Operand8 F
-    ∷ File Mov Operand2 W ∷ File Sub Operand4 W ∷ Store Operand6 ∷ File Mov Operand5 W ∷ Store Operand7
-    ∷ File Mov Operand3 W ∷ SkipCarry true ∷ File IncSkip Operand3 W ∷ File Sub Operand7 F
-    ∷ SkipBit false Operand8 0 ∷ MakeCarry true
-    ∷ File Mov Operand7 W ∷ SkipCarry false ∷ Store Operand5 ∷ File Mov Operand6 W ∷ SkipCarry false ∷ Store Operand4 ∷ []
+    ∷ File Mov Operand2 W ∷ File Sub Operand4 W ∷ Store Operand6 ∷ File Mov Operand5 W ∷ Store Operand7 ∷ File Mov Operand3 W ∷ []
+
+-- The upper byte of the divisor is taken off, and one more after a borrow. Where that is 256, C is 0 already.
+abbrev pub borrowing : List Act
+borrowing = SkipCarry true ∷ File IncSkip Operand3 W ∷ File Sub Operand7 F ∷ []
+
+abbrev pub wide_keeping : List Act
+wide_keeping =
+    SkipBit false Operand8 0 ∷ MakeCarry true ∷ File Mov Operand7 W ∷ SkipCarry false ∷ Store Operand5
+    ∷ File Mov Operand6 W ∷ SkipCarry false ∷ Store Operand4 ∷ []
+
+abbrev pub wide_turning : List Act
+wide_turning = wide_shifting ++ borrowing ++ wide_keeping
 
 -- The rest in Operand4, or in Operand4 and Operand5; the quotient but its last bit, which is C, in place of the dividend.
 abbrev pub dividing : Bool → List Act
