@@ -8,3 +8,5 @@ pub mod EachFacts
 pub mod DivisionFacts
 pub mod QuotientFacts
 pub mod WideQuotientFacts
+pub mod EmittingFacts
+pub mod Examples

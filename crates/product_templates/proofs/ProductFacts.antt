@@ -9,7 +9,7 @@ use Rattle.code_acts.specs.declared.acts.Name.TheVariants.{Operand0, Operand1, O
 use Rattle.code_acts.specs.declared.acts.FileOp.TheVariants.{Add, Mov, Right}
 use Rattle.code_acts.specs.declared.acts.Act.TheVariants.{File, Clear, MakeCarry}
 use Rattle.code_acts.specs.Acts.{State, agrees, step_in, run}
-use Rattle.product_templates.specs.Templates.{core_of, weighing, folding, carrying, long_product}
+use Rattle.product_templates.specs.Templates.{core_of, weighing, folding, carrying, long_product, crossing}
 use Rattle.product_templates.proofs.StateLaws.{at, ran, ran-append, from_parts, ran-keeps, any}
 use Rattle.product_templates.proofs.ByteSumLaws.{plus-carry, right-num}
 use Rattle.product_templates.proofs.WeighingFacts.{Weighs, lower, higher, weigh, fold}
@@ -118,11 +118,11 @@ wide-parts : (s : State)
 wide-parts s =
     ran-append _ folding s
     ∙ ap (λ (t : State). ran folding t)
-    (ran-append _ (weighing Operand1 Operand2) s
+    (ran-append long_product crossing s
+    ∙ ran-append _ (weighing Operand1 Operand2) (ran long_product s)
     ∙ ap (λ (t : State). ran (weighing Operand1 Operand2) t)
-    (ran-append _ (File Mov Operand1 W ∷ []) s
-    ∙ ap (λ (t : State). ran (File Mov Operand1 W ∷ []) t)
-    (ran-append _ (weighing Operand0 Operand3) s ∙ ap (λ (t : State). ran (weighing Operand0 Operand3) t) (ran-append long_product (Clear Operand6 ∷ []) s))))
+    (ran-append _ (File Mov Operand1 W ∷ []) (ran long_product s)
+    ∙ ap (λ (t : State). ran (File Mov Operand1 W ∷ []) t) (ran-append (Clear Operand6 ∷ []) (weighing Operand0 Operand3) (ran long_product s))))
 
 -- The low bytes of the other two products, by halves, go to the upper byte of the long one.
 whole_halves : (h a b : ℕ) (x y : Byte) → h + lower y * a + lower x * b + 16 * (0 + higher y * a + higher x * b) ≡ h + a * num y + b * num x

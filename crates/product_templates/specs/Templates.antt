@@ -41,6 +41,10 @@ long_product =
     (File Mov Operand0 W ∷ Clear Operand4 ∷ Clear Operand5 ∷ MakeCarry false ∷ [])
     ++ carrying 0 ++ carrying 1 ++ carrying 2 ++ carrying 3 ++ carrying 4 ++ carrying 5 ++ carrying 6 ++ carrying 7
 
+-- The products of the lower byte of each factor and the upper byte of the other are added to Operand5, but for what `folding` adds.
+abbrev pub crossing : List Act
+crossing = (Clear Operand6 ∷ []) ++ weighing Operand0 Operand3 ++ (File Mov Operand1 W ∷ []) ++ weighing Operand1 Operand2
+
 -- One bit of a quotient. The dividend Operand0 gives its highest bit to the rest Operand4, whose ninth bit goes to bit 0 of
 -- Operand8. W is the rest less the divisor Operand3, and C is 1 where there was no borrow.
 abbrev pub comparing : List Act
@@ -82,7 +86,7 @@ dividing true = Clear Operand4 ∷ Clear Operand5 ∷ repeated 16 wide_turning
 -- and Operand2 with Operand3.
 abbrev pub core_of : BinOp → (wide : Bool) → List Act
 core_of binary.Mul false = (File Mov Operand0 W ∷ Clear Operand5 ∷ Clear Operand6 ∷ []) ++ weighing Operand0 Operand3 ++ folding
-core_of binary.Mul true = long_product ++ (Clear Operand6 ∷ []) ++ weighing Operand0 Operand3 ++ (File Mov Operand1 W ∷ []) ++ weighing Operand1 Operand2 ++ folding
+core_of binary.Mul true = long_product ++ crossing ++ folding
 core_of binary.Div false = dividing false ++ (File Left Operand0 F ∷ [])
 core_of binary.Div true = dividing true ++ (File Left Operand0 F ∷ File Left Operand1 F ∷ [])
 core_of binary.Rem wide = dividing wide

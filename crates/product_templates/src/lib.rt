@@ -3,3 +3,7 @@
 #![tactic(auto)]
 
 mod laws;
+mod templates;
+
+pub use laws::{are_short, are_sound, core_does, template_does};
+pub use templates::product_template;

@@ -1,0 +1,26 @@
+-- Acts that loops have written so far.
+use Rattle.std.proofs.Common.{◌≡◌, ℕ, zero, suc, ◌+◌, false, List, [], ◌∷◌, ◌++◌, refl, sym, ap, ◌∙◌, add-one, append_assoc, append-nil}
+use Rattle.pic_isa.specs.declared.instructions.Dest.TheVariants.{W}
+use Rattle.code_acts.specs.declared.acts.Name.TheVariants.{Operand0, Operand4, Operand5}
+use Rattle.code_acts.specs.declared.acts.FileOp.TheVariants.{Mov}
+use Rattle.code_acts.specs.declared.acts.Act.{Act}
+use Rattle.code_acts.specs.declared.acts.Act.TheVariants.{File, Clear, MakeCarry}
+use Rattle.product_templates.specs.Templates.{carrying, long_product, repeated}
+
+-- A long product with so many of its bits.
+abbrev pub long_so_far : ℕ → List Act
+long_so_far zero = File Mov Operand0 W ∷ Clear Operand4 ∷ Clear Operand5 ∷ MakeCarry false ∷ []
+long_so_far (suc i) = long_so_far i ++ carrying i
+
+pub long_so_far-next : (i : ℕ) → long_so_far (i + 1) ≡ long_so_far i ++ carrying i
+long_so_far-next i = ap long_so_far (add-one i)
+
+pub long_so_far-all : long_so_far 8 ≡ long_product
+long_so_far-all = refl
+
+repeated-suc : (n : ℕ) (acts : List Act) → acts ++ repeated n acts ≡ repeated n acts ++ acts
+repeated-suc zero acts = append-nil acts
+repeated-suc (suc n) acts = ap (λ (more : List Act). acts ++ more) (repeated-suc n acts) ∙ sym (append_assoc acts (repeated n acts) acts)
+
+pub repeated-next : (n : ℕ) (acts : List Act) → repeated (n + 1) acts ≡ repeated n acts ++ acts
+repeated-next n acts = ap (λ k. repeated k acts) (add-one n) ∙ repeated-suc n acts

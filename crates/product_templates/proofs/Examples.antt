@@ -1,0 +1,2 @@
+-- Products and quotients, computed by the machine.
+mod Values
