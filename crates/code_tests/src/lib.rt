@@ -1,6 +1,8 @@
-//! Tests of `byte_ops`, `bank_alloc`, `code_items`, `page_layout`, `code_acts` and `op_templates` by their public calls: operations on
+//! Tests of `byte_ops`, `bank_alloc`, `op_code`, `page_layout`, `code_acts` and `product_templates` by their public calls: operations
 //! bytes, places for bytes, marks and jumps that are raised, code that fills program memory, code on four pages that the simulator
 //! runs, a sum over three banks, and a template of each kind.
+//! on bytes, places for bytes, marks and jumps that are raised, code that fills program memory, code on four pages that the
+//! simulator runs, a sum over three banks, and the acts of products and quotients.
 #![tactic(auto)]
 
 #[cfg(test)]
@@ -15,3 +17,4 @@ mod layout_tests;
 mod place_tests;
 #[cfg(test)]
 mod template_tests;
+mod product_tests;

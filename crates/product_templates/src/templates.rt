@@ -139,7 +139,7 @@ fn turn() -> [Act; 9]
     [
         left(Name::Operand0),
         left(Name::Operand4),
-        left(Name::Operand8),
+        left(Name::Operand8), // The ninth bit of the rest.
         load(Name::Operand3),
         Act::File(FileOp::Sub, Name::Operand4, Dest::W),
         Act::SkipBit(false, Name::Operand8, 0),
@@ -157,10 +157,10 @@ fn wide_turn() -> [Act; 22]
         left(Name::Operand1),
         left(Name::Operand4),
         left(Name::Operand5),
-        left(Name::Operand8),
+        left(Name::Operand8), // The seventeenth bit of the rest.
         load(Name::Operand2),
         Act::File(FileOp::Sub, Name::Operand4, Dest::W),
-        Act::Store(Name::Operand6),
+        Act::Store(Name::Operand6), // The lower byte of the difference.
         load(Name::Operand5),
         Act::Store(Name::Operand7),
         load(Name::Operand3),
