@@ -1,15 +1,11 @@
 -- Acts that loops have written so far.
-use Rattle.std.proofs.Common.{◌≡◌, ℕ, zero, suc, ◌+◌, false, List, [], ◌∷◌, ◌++◌, refl, sym, ap, ◌∙◌, add-one, append_assoc, append-nil}
-use Rattle.pic_isa.specs.declared.instructions.Dest.TheVariants.{W}
-use Rattle.code_acts.specs.declared.acts.Name.TheVariants.{Operand0, Operand4, Operand5}
-use Rattle.code_acts.specs.declared.acts.FileOp.TheVariants.{Mov}
+use Rattle.std.proofs.Common.{◌≡◌, ℕ, zero, suc, ◌+◌, List, ◌++◌, refl, sym, ap, ◌∙◌, add-one, append_assoc, append-nil}
 use Rattle.code_acts.specs.declared.acts.Act.{Act}
-use Rattle.code_acts.specs.declared.acts.Act.TheVariants.{File, Clear, MakeCarry}
-use Rattle.product_templates.specs.Templates.{carrying, long_product, repeated}
+use Rattle.product_templates.specs.Templates.{long_start, carrying, long_product, repeated}
 
 -- A long product with so many of its bits.
 abbrev pub long_so_far : ℕ → List Act
-long_so_far zero = File Mov Operand0 W ∷ Clear Operand4 ∷ Clear Operand5 ∷ MakeCarry false ∷ []
+long_so_far zero = long_start
 long_so_far (suc i) = long_so_far i ++ carrying i
 
 pub long_so_far-next : (i : ℕ) → long_so_far (i + 1) ≡ long_so_far i ++ carrying i

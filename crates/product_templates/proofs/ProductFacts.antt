@@ -7,9 +7,9 @@ use Rattle.pic_regs.proofs.ByteLaws.{num-below, one_if-small}
 use Rattle.pic_machine.specs.Results.{plus, turned_right}
 use Rattle.code_acts.specs.declared.acts.Name.TheVariants.{Operand0, Operand1, Operand2, Operand3, Operand4, Operand5, Operand6}
 use Rattle.code_acts.specs.declared.acts.FileOp.TheVariants.{Add, Mov, Right}
-use Rattle.code_acts.specs.declared.acts.Act.TheVariants.{File, Clear, MakeCarry}
+use Rattle.code_acts.specs.declared.acts.Act.TheVariants.{File, Clear}
 use Rattle.code_acts.specs.Acts.{State, agrees, step_in, run}
-use Rattle.product_templates.specs.Templates.{core_of, weighing, folding, carrying, long_product, crossing}
+use Rattle.product_templates.specs.Templates.{core_of, narrow_start, long_start, weighing, folding, carrying, long_product, crossing}
 use Rattle.product_templates.proofs.StateLaws.{at, ran, ran-append, from_parts, ran-keeps, any}
 use Rattle.product_templates.proofs.ByteSumLaws.{plus-carry, right-num}
 use Rattle.product_templates.proofs.WeighingFacts.{Weighs, lower, higher, weigh, fold}
@@ -22,14 +22,13 @@ halves a y = omega arith
 small : (x : Byte) → num x ≡ num x % 256
 small x = omega (arith, num-below x)
 
--- 8 bits.
-
-starts : (s : State) → s.skip ≡ false → Weighs true (s.mem 3) (num (s.mem 0)) 0 0 (ran (File Mov Operand0 W ∷ Clear Operand5 ∷ Clear Operand6 ∷ []) s)
+-- 8 bits: before the first weight both sums are 0.
+starts : (s : State) → s.skip ≡ false → Weighs true (s.mem 3) (num (s.mem 0)) 0 0 (ran narrow_start s)
 starts s none =
     from_parts (λ t. Weighs true (s.mem 3) (num (s.mem 0)) 0 0 t) _ s none
     (record { no_skip = refl; w = small (s.mem 0); x = small (s.mem 0); same = refl; high = refl; upper = refl })
 
-narrow-parts : (s : State) → ran (core_of Mul false) s ≡ ran folding (ran (weighing Operand0 Operand3) (ran (File Mov Operand0 W ∷ Clear Operand5 ∷ Clear Operand6 ∷ []) s))
+narrow-parts : (s : State) → ran (core_of Mul false) s ≡ ran folding (ran (weighing Operand0 Operand3) (ran narrow_start s))
 narrow-parts s = ran-append _ folding s ∙ ap (λ (t : State). ran folding t) (ran-append _ (weighing Operand0 Operand3) s)
 
 pub narrow_product : (s : State) → s.skip ≡ false → Computes Mul false s (ran (core_of Mul false) s)
@@ -87,7 +86,7 @@ whole_sum a y = omega arith
 long-parts : (s : State)
     → ran long_product s
     ≡ ran (carrying 7) (ran (carrying 6) (ran (carrying 5) (ran (carrying 4) (ran (carrying 3) (ran (carrying 2) (ran (carrying 1) (ran (carrying 0)
-    (ran (File Mov Operand0 W ∷ Clear Operand4 ∷ Clear Operand5 ∷ MakeCarry false ∷ []) s))))))))
+    (ran long_start s))))))))
 long-parts s = simp ran-append
 
 carry_all : (k y : Byte) (s : State) → Carries k y (2 * 128 * 0) s

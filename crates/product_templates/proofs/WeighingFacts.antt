@@ -1,8 +1,9 @@
 -- The product of a factor and a byte, of which the low byte counts: the sums of weights that are taken.
-use Rattle.std.proofs.Common.{◌≡◌, ℕ, ◌+◌, ◌*◌, ◌%◌, Bool, true, false, [], ◌∷◌, refl, ap, sym, subst, ◌∙◌, arith}
+use Rattle.std.proofs.Common.{◌≡◌, ℕ, ◌+◌, ◌*◌, ◌%◌, Bool, true, false, ◌==◌, if◌then◌else◌, [], ◌∷◌, refl, ap, sym, subst, ◌∙◌, arith, eq-eqb}
 use Rattle.pic_isa.specs.declared.instructions.Dest.TheVariants.{F}
 use Rattle.pic_regs.specs.Bytes.{Byte, num, bits, one_if, bit, swapped}
-use Rattle.pic_machine.specs.Results.{both}
+use Rattle.pic_regs.proofs.ByteLaws.{num-below}
+use Rattle.pic_machine.specs.Results.{both, plus}
 use Rattle.code_acts.specs.declared.acts.Name.{Name}
 use Rattle.code_acts.specs.declared.acts.Name.TheVariants.{Operand0, Operand1, Operand2, Operand3, Operand5, Operand6}
 use Rattle.code_acts.specs.declared.acts.FileOp.TheVariants.{Add}
@@ -30,54 +31,66 @@ pub record Weighs (first : Bool) (y : Byte) (a h u : ℕ) (s : State) : Type 0 w
   pub high : num (s.mem 5) ≡ h % 256
   pub upper : num (s.mem 6) ≡ u % 256
 
--- Its parts, at a state with no skip pending.
-parts : (first : Bool) (y : Byte) (a h u : ℕ) (s : State) → Weighs first y a h u s → Weighs first y a h u (at s.w s.carry s.zero s.mem)
-parts first y a h u s e = record { no_skip = refl; w = e.w; x = e.x; same = e.same; high = e.high; upper = e.upper }
+-- W has been added to a byte where b is true.
+record Adds (n : ℕ) (b : Bool) (s t : State) : Type 0 where
+  no_skip : t.skip ≡ false
+  w : t.w ≡ s.w
+  others : (m : ℕ) → (m == n) ≡ false → t.mem m ≡ s.mem m
+  sum : num (t.mem n) ≡ (num (s.mem n) + one_if b * num s.w) % 256
 
-take-low : (first : Bool) (i : ℕ) (y : Byte) (a h u : ℕ) (s : State) → Weighs first y a h u s
-    → Weighs first y a (h + one_if (bit i y) * a) u (ran (SkipBit false (other first) i ∷ File Add Operand5 F ∷ []) s)
-take-low true i y a h u s e =
-    from_parts (λ t. Weighs true y a (h + one_if (bit i y) * a) u t) _ s e.no_skip
-    (subst (λ v. Weighs true y a (h + one_if (bit i v) * a) u (run (SkipBit false (other true) i ∷ File Add Operand5 F ∷ []) (at s.w s.carry s.zero s.mem))) e.same
-    (by_bit (bit i (s.mem 3))))
+add_where : (y to : Name) (i : ℕ) (s : State) → s.skip ≡ false → Adds (number to) (bit i (s.mem (number y))) s (ran (SkipBit false y i ∷ File Add to F ∷ []) s)
+add_where y to i s none = from_parts (λ t. Adds (number to) (bit i (s.mem (number y))) s t) _ s none (by_bit (bit i (s.mem (number y))))
   where
-    by_bit : (b : Bool) → Weighs true y a (h + one_if b * a) u (step_in (agrees false b) (File Add Operand5 F) (record { w = s.w; carry = s.carry; zero = s.zero; skip = agrees false b; mem = s.mem }))
-    by_bit true = record { no_skip = refl; w = e.w; x = e.x; same = e.same; high = plus-num s.w (s.mem 5) ∙ omega (arith, e.w, e.high); upper = e.upper }
-    by_bit false = record { no_skip = refl; w = e.w; x = e.x; same = e.same; high = e.high ∙ omega arith; upper = e.upper }
-take-low _ i y a h u s e =
-    from_parts (λ t. Weighs false y a (h + one_if (bit i y) * a) u t) _ s e.no_skip
-    (subst (λ v. Weighs false y a (h + one_if (bit i v) * a) u (run (SkipBit false (other false) i ∷ File Add Operand5 F ∷ []) (at s.w s.carry s.zero s.mem))) e.same
-    (by_bit (bit i (s.mem 2))))
-  where
-    by_bit : (b : Bool) → Weighs false y a (h + one_if b * a) u (step_in (agrees false b) (File Add Operand5 F) (record { w = s.w; carry = s.carry; zero = s.zero; skip = agrees false b; mem = s.mem }))
-    by_bit true = record { no_skip = refl; w = e.w; x = e.x; same = e.same; high = plus-num s.w (s.mem 5) ∙ omega (arith, e.w, e.high); upper = e.upper }
-    by_bit false = record { no_skip = refl; w = e.w; x = e.x; same = e.same; high = e.high ∙ omega arith; upper = e.upper }
+    by_bit : (b : Bool)
+        → Adds (number to) b s (step_in (agrees false b) (File Add to F) (record { w = s.w; carry = s.carry; zero = s.zero; skip = agrees false b; mem = s.mem }))
+    by_bit true =
+        let byte = (plus s.w (s.mem (number to))).byte in
+        record {
+          no_skip = refl;
+          w = refl;
+          others = λ m other. ap (λ v. if v then byte else s.mem m) other;
+          sum = ap (λ v. num (if v then byte else s.mem (number to))) (eq-eqb (number to) (number to) refl) ∙ plus-num s.w (s.mem (number to)) ∙ omega arith;
+        }
+    by_bit false = record { no_skip = refl; w = refl; others = λ m other. refl; sum = omega (arith, num-below (s.mem (number to))) }
 
-take-high : (first : Bool) (i : ℕ) (y : Byte) (a h u : ℕ) (s : State) → Weighs first y a h u s
-    → Weighs first y a h (u + one_if (bit (i + 4) y) * a) (ran (SkipBit false (other first) (i + 4) ∷ File Add Operand6 F ∷ []) s)
-take-high true i y a h u s e =
-    from_parts (λ t. Weighs true y a h (u + one_if (bit (i + 4) y) * a) t) _ s e.no_skip
-    (subst (λ v. Weighs true y a h (u + one_if (bit (i + 4) v) * a) (run (SkipBit false (other true) (i + 4) ∷ File Add Operand6 F ∷ []) (at s.w s.carry s.zero s.mem))) e.same
-    (by_bit (bit (i + 4) (s.mem 3))))
-  where
-    by_bit : (b : Bool) → Weighs true y a h (u + one_if b * a) (step_in (agrees false b) (File Add Operand6 F) (record { w = s.w; carry = s.carry; zero = s.zero; skip = agrees false b; mem = s.mem }))
-    by_bit true = record { no_skip = refl; w = e.w; x = e.x; same = e.same; high = e.high; upper = plus-num s.w (s.mem 6) ∙ omega (arith, e.w, e.upper) }
-    by_bit false = record { no_skip = refl; w = e.w; x = e.x; same = e.same; high = e.high; upper = e.upper ∙ omega arith }
-take-high _ i y a h u s e =
-    from_parts (λ t. Weighs false y a h (u + one_if (bit (i + 4) y) * a) t) _ s e.no_skip
-    (subst (λ v. Weighs false y a h (u + one_if (bit (i + 4) v) * a) (run (SkipBit false (other false) (i + 4) ∷ File Add Operand6 F ∷ []) (at s.w s.carry s.zero s.mem))) e.same
-    (by_bit (bit (i + 4) (s.mem 2))))
-  where
-    by_bit : (b : Bool) → Weighs false y a h (u + one_if b * a) (step_in (agrees false b) (File Add Operand6 F) (record { w = s.w; carry = s.carry; zero = s.zero; skip = agrees false b; mem = s.mem }))
-    by_bit true = record { no_skip = refl; w = e.w; x = e.x; same = e.same; high = e.high; upper = plus-num s.w (s.mem 6) ∙ omega (arith, e.w, e.upper) }
-    by_bit false = record { no_skip = refl; w = e.w; x = e.x; same = e.same; high = e.high; upper = e.upper ∙ omega arith }
+added : (b : Bool) (p w h a : ℕ) → p ≡ h % 256 → w ≡ a % 256 → (p + one_if b * w) % 256 ≡ (h + one_if b * a) % 256
+added true p w h a sum weight = omega (arith, sum, weight)
+added false p w h a sum weight = omega (arith, sum)
 
+-- Neither factor is a sum.
+factor-apart : (first : Bool) → ((number (factor first) == 5) ≡ false) × ((number (factor first) == 6) ≡ false)
+factor-apart true = (refl, refl)
+factor-apart false = (refl, refl)
+
+other-apart : (first : Bool) → ((number (other first) == 5) ≡ false) × ((number (other first) == 6) ≡ false)
+other-apart true = (refl, refl)
+other-apart false = (refl, refl)
+
+-- Where bits i and i + 4 of the other factor are 1, the weight is added to the sums.
 take : {first : Bool} {y : Byte} {a h u : ℕ} {s : State} (i : ℕ) → Weighs first y a h u s
     → Weighs first y a (h + one_if (bit i y) * a) (u + one_if (bit (i + 4) y) * a) (ran (taking (other first) i) s)
 take {first = first} {y = y} {a = a} {h = h} {u = u} {s = s} i e =
-    in_parts (λ t. Weighs first y a (h + one_if (bit i y) * a) (u + one_if (bit (i + 4) y) * a) t) (SkipBit false (other first) i ∷ File Add Operand5 F ∷ []) _ s
-    (take-high first i y a (h + one_if (bit i y) * a) u _ (take-low first i y a h u s e))
+    in_parts (λ t. Weighs first y a (h + one_if (bit i y) * a) (u + one_if (bit (i + 4) y) * a) t) (SkipBit false (other first) i ∷ File Add Operand5 F ∷ []) _ s (
+    let one = add_where (other first) Operand5 i s e.no_skip in
+    let two = add_where (other first) Operand6 (i + 4) _ one.no_skip in
+    let same = one.others (number (other first)) (other-apart first).0 ∙ e.same in
+    record {
+      no_skip = two.no_skip;
+      w = ap num (two.w ∙ one.w) ∙ e.w;
+      x = ap num (two.others (number (factor first)) (factor-apart first).1 ∙ one.others (number (factor first)) (factor-apart first).0) ∙ e.x;
+      same = two.others (number (other first)) (other-apart first).1 ∙ same;
+      high =
+          ap num (two.others 5 refl)
+          ∙ one.sum
+          ∙ ap (λ v. (num (s.mem 5) + one_if (bit i v) * num s.w) % 256) e.same
+          ∙ added (bit i y) (num (s.mem 5)) (num s.w) h a e.high e.w;
+      upper =
+          two.sum
+          ∙ (λ j. (num (one.others 6 refl j) + one_if (bit (i + 4) (same j)) * num (one.w j)) % 256)
+          ∙ added (bit (i + 4) y) (num (s.mem 6)) (num s.w) u a e.upper e.w;
+    })
 
+-- The weight is doubled.
 double : {first : Bool} {y : Byte} {a h u : ℕ} {s : State} → Weighs first y a h u s → Weighs first y (a + a) h u (ran (doubling (factor first)) s)
 double {first = true} {y = y} {a = a} {h = h} {u = u} {s = s} e =
     from_parts (λ t. Weighs true y (a + a) h u t) _ s e.no_skip

@@ -27,6 +27,10 @@ doubling x = File Add x F ∷ File Mov x W ∷ []
 abbrev pub weighing : Name → Name → List Act
 weighing x y = taking y 0 ++ doubling x ++ taking y 1 ++ doubling x ++ taking y 2 ++ doubling x ++ taking y 3
 
+-- W is the factor Operand0, and both sums are 0.
+abbrev pub narrow_start : List Act
+narrow_start = File Mov Operand0 W ∷ Clear Operand5 ∷ Clear Operand6 ∷ []
+
 -- 16 times Operand6 is added to Operand5.
 abbrev pub folding : List Act
 folding = File Swap Operand6 W ∷ Const AndK 0xF0 ∷ File Add Operand5 F ∷ []
@@ -35,11 +39,14 @@ folding = File Swap Operand6 W ∷ Const AndK 0xF0 ∷ File Add Operand5 F ∷ [
 abbrev pub carrying : ℕ → List Act
 carrying i = SkipBit false Operand2 i ∷ File Add Operand5 F ∷ File Right Operand5 F ∷ File Right Operand4 F ∷ []
 
+-- W is the factor Operand0, and the product and C are 0.
+abbrev pub long_start : List Act
+long_start = File Mov Operand0 W ∷ Clear Operand4 ∷ Clear Operand5 ∷ MakeCarry false ∷ []
+
 -- Operand4 and Operand5 become the product of Operand0 and Operand2, of 16 bits.
 abbrev pub long_product : List Act
 long_product =
-    (File Mov Operand0 W ∷ Clear Operand4 ∷ Clear Operand5 ∷ MakeCarry false ∷ [])
-    ++ carrying 0 ++ carrying 1 ++ carrying 2 ++ carrying 3 ++ carrying 4 ++ carrying 5 ++ carrying 6 ++ carrying 7
+    long_start ++ carrying 0 ++ carrying 1 ++ carrying 2 ++ carrying 3 ++ carrying 4 ++ carrying 5 ++ carrying 6 ++ carrying 7
 
 -- The products of the lower byte of each factor and the upper byte of the other are added to Operand5, but for what `folding` adds.
 abbrev pub crossing : List Act
@@ -50,11 +57,12 @@ crossing = (Clear Operand6 ∷ []) ++ weighing Operand0 Operand3 ++ (File Mov Op
 abbrev pub comparing : List Act
 comparing = File Left Operand0 F ∷ File Left Operand4 F ∷ File Left Operand8 F ∷ File Mov Operand3 W ∷ File Sub Operand4 W ∷ []
 
--- Where the divisor fits, since the rest has a ninth bit or there was no borrow, C is 1, and W the rest. C is the bit of the
+-- Where the divisor fits, as the rest has a ninth bit or there was no borrow, C is 1, and W the rest. C is the bit of the
 -- quotient, and the next turn shifts it into the dividend.
 abbrev pub keeping : List Act
 keeping = SkipBit false Operand8 0 ∷ MakeCarry true ∷ SkipCarry false ∷ Store Operand4 ∷ []
 
+-- A turn.
 abbrev pub turning : List Act
 turning = comparing ++ keeping
 
@@ -69,11 +77,13 @@ wide_shifting =
 abbrev pub borrowing : List Act
 borrowing = SkipCarry true ∷ File IncSkip Operand3 W ∷ File Sub Operand7 F ∷ []
 
+-- Where the divisor fits, C is 1 and the rest is the difference.
 abbrev pub wide_keeping : List Act
 wide_keeping =
     SkipBit false Operand8 0 ∷ MakeCarry true ∷ File Mov Operand7 W ∷ SkipCarry false ∷ Store Operand5
     ∷ File Mov Operand6 W ∷ SkipCarry false ∷ Store Operand4 ∷ []
 
+-- A turn of 16 bits.
 abbrev pub wide_turning : List Act
 wide_turning = wide_shifting ++ borrowing ++ wide_keeping
 
@@ -85,19 +95,20 @@ dividing true = Clear Operand4 ∷ Clear Operand5 ∷ repeated 16 wide_turning
 -- The core of an operator, for 8 or 16 bits. Its operands are Operand0 and Operand3; or Operand0 with Operand1 for its upper byte,
 -- and Operand2 with Operand3.
 abbrev pub core_of : BinOp → (wide : Bool) → List Act
-core_of binary.Mul false = (File Mov Operand0 W ∷ Clear Operand5 ∷ Clear Operand6 ∷ []) ++ weighing Operand0 Operand3 ++ folding
+core_of binary.Mul false = narrow_start ++ weighing Operand0 Operand3 ++ folding
 core_of binary.Mul true = long_product ++ crossing ++ folding
 core_of binary.Div false = dividing false ++ (File Left Operand0 F ∷ [])
 core_of binary.Div true = dividing true ++ (File Left Operand0 F ∷ File Left Operand1 F ∷ [])
 core_of binary.Rem wide = dividing wide
 core_of _ wide = []
 
--- Where a core leaves its result: the low byte and the upper one.
+-- Where a core leaves its result, or the lower byte of a wide one.
 abbrev pub low_result : BinOp → (wide : Bool) → Name
 low_result binary.Mul false = Operand5
 low_result binary.Div wide = Operand0
 low_result _ wide = Operand4
 
+-- Its upper byte, where it is wide.
 abbrev pub high_result : BinOp → Name
 high_result binary.Div = Operand1
 high_result _ = Operand5
@@ -106,11 +117,12 @@ high_result _ = Operand5
 abbrev pub copying : (from to : Name) → List Act
 copying from to = File Mov from W ∷ Store to ∷ []
 
--- The operands are copied to where a core finds them, and the result from where it leaves it.
+-- The operands are copied to where a core finds them.
 abbrev pub copying_in : (wide : Bool) → List Act
 copying_in false = copying A Operand0 ++ copying B Operand3
 copying_in true = copying A Operand0 ++ copying AHigh Operand1 ++ copying B Operand2 ++ copying BHigh Operand3
 
+-- The result is copied from where a core leaves it.
 abbrev pub copying_out : BinOp → (wide : Bool) → List Act
 copying_out f false = copying (low_result f false) To
 copying_out f true = copying (low_result f true) To ++ copying (high_result f) ToHigh
