@@ -23,6 +23,7 @@ use Rattle.causality.specs.Graphs.{numbers_of, edges_by, edges_on, graph_on, has
 use Rattle.causality.specs.Orders.{DependsOnItself}
 use Rattle.causality.proofs.GraphFacts.{same_number}
 use Rattle.causality.proofs.NumberFacts.{same_bytes, Known, Numbered, known-numbered, number-numbered, depends-known}
+use Rattle.causality.proofs.ChoiceFacts.{or-right}
 
 module _ (p : ProgramTree) where
   -- The numbers of names.
@@ -52,10 +53,6 @@ module _ (p : ProgramTree) where
   number-from [] j h = absurd (false≢true h)
   number-from (n ∷ ns) j h = by_part (decl_number p n) refl (number-from ns j) (sym (list_any-append (λ m. m == j) (option_to_list (decl_number p n)) (numbers ns)) ∙ h)
     where
-      or-right : (a b : Bool) → b ≡ true → (a || b) ≡ true
-      or-right true b h = refl
-      or-right false b h = h
-
       by_number : (k : ℕ) → decl_number p n ≡ Some k → (((k == j) ≡ true) × (k ≡ j)) ⊎ (((k == j) ≡ false) × (k ≢ j)) → (has (numbers ns) j ≡ true → (y : List ℕ) × (list_any (bytes_eq y) ns ≡ true) × (decl_number p y ≡ Some j))
           → (((k == j) || false) || has (numbers ns) j) ≡ true → (y : List ℕ) × (list_any (bytes_eq y) (n ∷ ns) ≡ true) × (decl_number p y ≡ Some j)
       by_number k e (inl s) rest g = (n, ap (λ b. b || list_any (bytes_eq n) ns) (same_bytes n), e ∙ ap Some s.1)
@@ -72,10 +69,6 @@ module _ (p : ProgramTree) where
   number-to [] y j h e = absurd (false≢true h)
   number-to (n ∷ ns) y j h e = list_any-append (λ m. m == j) (option_to_list (decl_number p n)) (numbers ns) ∙ by_name (bytes_eq y n) refl h (λ k. number-to ns y j k e)
     where
-      or-right : (a b : Bool) → b ≡ true → (a || b) ≡ true
-      or-right true b h = refl
-      or-right false b h = h
-
       by_name : (b : Bool) → bytes_eq y n ≡ b → (b || list_any (bytes_eq y) ns) ≡ true → (list_any (bytes_eq y) ns ≡ true → has (numbers ns) j ≡ true)
           → (has (option_to_list (decl_number p n)) j || has (numbers ns) j) ≡ true
       by_name true same g rest =

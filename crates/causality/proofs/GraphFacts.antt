@@ -8,13 +8,10 @@ use Rattle.std.proofs.lemmas.List.{get_or_read}
 use Rattle.std.proofs.lemmas.List.Folds.{list_any-append}
 use mathlib.Core.Logic.{inl, inr}
 use Rattle.causality.specs.Graphs.{has, edges, Edge, Path, IsGraph, is_marked}
+use Rattle.causality.proofs.ChoiceFacts.{or-none, or-right}
 
 pub same_number : (n : ℕ) → (n == n) ≡ true
 same_number n = elim (eqb_tells n n) [ inl s ↦ s.0 | inr s ↦ absurd (s.1 refl) ]
-
-or-none : (b : Bool) → (b || false) ≡ b
-or-none true = refl
-or-none false = refl
 
 -- A list that grows by a number has that too.
 pub has-push : (xs : List ℕ) (i n : ℕ) → has (xs ++ i ∷ []) n ≡ (has xs n || (i == n))
@@ -34,10 +31,6 @@ has-head x xs = ap (λ b. b || has xs x) (same_number x)
 
 pub has-tail : (x : ℕ) (xs : List ℕ) (n : ℕ) → has xs n ≡ true → has (x ∷ xs) n ≡ true
 has-tail x xs n h = or-right (x == n) (has xs n) h
-  where
-    or-right : (a b : Bool) → b ≡ true → (a || b) ≡ true
-    or-right true b h = refl
-    or-right false b h = h
 
 -- And the other way round.
 pub all-pass : (test : ℕ → Bool) (xs : List ℕ) → ((n : ℕ) → has xs n ≡ true → test n ≡ true) → list_all test xs ≡ true
@@ -67,13 +60,13 @@ has-at (x ∷ xs) n h = by_number (eqb_tells x n) h (has-at xs n)
 pub has-below : (most : ℕ) (xs : List ℕ) (n : ℕ) → All (λ m. m < most) xs → has xs n ≡ true → n < most
 has-below most xs n all h = let at = has-at xs n h in subst (λ m. m < most) at.2 (all at.0 0 at.1)
 
--- The edges of a number, as they are read.
-pub at-edges : (g : List (List ℕ)) (i : ℕ) (x y : List ℕ) → i < length g → x ≡ get_or g i x → y ≡ x → y ≡ edges g i
-at-edges g i x y less is same = same ∙ get_or_read g i x less is []
+-- A list in a row of lists, as it is read; and one of a graph, whose numbers are its own.
+pub list-at : (g : List (List ℕ)) (i : ℕ) (x y : List ℕ) → i < length g → x ≡ get_or g i x → y ≡ x → y ≡ edges g i
+list-at g i x y less is same = same ∙ get_or_read g i x less is []
 
 pub read-below : (g : List (List ℕ)) (i : ℕ) (x y : List ℕ) (most : ℕ) → IsGraph g → i < length g → x ≡ get_or g i x → y ≡ x → length g ≡ most → All (λ n. n < most) y
 read-below g i x y most graph less is same e =
-    subst (λ ys. All (λ n. n < most) ys) (sym (at-edges g i x y less is same)) (subst (λ m. All (λ n. n < m) (edges g i)) e (graph i))
+    subst (λ ys. All (λ n. n < most) ys) (sym (list-at g i x y less is same)) (subst (λ m. All (λ n. n < m) (edges g i)) e (graph i))
 
 module _ (g : List (List ℕ)) where
   -- A path goes on.

@@ -1,4 +1,5 @@
 pub mod BridgeFacts
+pub mod ChoiceFacts
 pub mod CycleLaws
 pub mod EventFacts
 pub mod Examples

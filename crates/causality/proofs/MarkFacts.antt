@@ -9,21 +9,14 @@ use Rattle.std.proofs.lemmas.List.Folds.{list_any_more}
 use mathlib.Core.Logic.{inl, inr}
 use Rattle.causality.specs.Graphs.{has, is_marked, unmarked, Marks}
 use Rattle.causality.proofs.GraphFacts.{has-push}
-
-or-true : (b : Bool) → true ≡ (b || true)
-or-true true = refl
-or-true false = refl
-
-or-none : (b : Bool) → b ≡ (b || false)
-or-none true = refl
-or-none false = refl
+use Rattle.causality.proofs.ChoiceFacts.{below-or-not, or-none, or-right}
 
 pub marked-set : (marked : List Bool) (i n : ℕ) → i < length marked → is_marked (set marked i true) n ≡ (is_marked marked n || (i == n))
 marked-set marked i n less = by_number (eqb_tells i n)
   where
     by_number : (((i == n) ≡ true) × (i ≡ n)) ⊎ (((i == n) ≡ false) × (i ≢ n)) → is_marked (set marked i true) n ≡ (is_marked marked n || (i == n))
-    by_number (inl s) = ap (λ k. is_marked (set marked i true) k) (sym s.1) ∙ get_or-set_same marked i true false less ∙ or-true (is_marked marked n) ∙ ap (λ b. is_marked marked n || b) (sym s.0)
-    by_number (inr s) = get_or-set_other marked i n true false (λ e. s.1 (sym e)) ∙ or-none (is_marked marked n) ∙ ap (λ b. is_marked marked n || b) (sym s.0)
+    by_number (inl s) = ap (λ k. is_marked (set marked i true) k) (sym s.1) ∙ get_or-set_same marked i true false less ∙ sym (or-right (is_marked marked n) true refl) ∙ ap (λ b. is_marked marked n || b) (sym s.0)
+    by_number (inr s) = get_or-set_other marked i n true false (λ e. s.1 (sym e)) ∙ sym (or-none (is_marked marked n)) ∙ ap (λ b. is_marked marked n || b) (sym s.0)
 
 abbrev weight : Bool → ℕ
 weight b = cond (not b) 1 0
@@ -38,19 +31,13 @@ unmarked-set marked i less new =
     omega (arith, e, one)
 
 pub marked-below : (marked : List Bool) (n : ℕ) → is_marked marked n ≡ true → n < length marked
-marked-below marked n h = elim (split n (length marked)) [ inl less ↦ less | inr most ↦ absurd (false≢true (sym (get_or_past marked n false most) ∙ h)) ]
-  where
-    split : (a b : ℕ) → (a < b) ⊎ (b ≤ a)
-    split a b = grind arith
+marked-below marked n h = elim (below-or-not n (length marked)) [ inl less ↦ less | inr most ↦ absurd (false≢true (sym (get_or_past marked n false most) ∙ h)) ]
 
 pub none-marked : (count n : ℕ) → is_marked (replicate count false) n ≡ false
-none-marked count n = elim (split n count) [
+none-marked count n = elim (below-or-not n count) [
   | inl less ↦ get_or-replicate count n false false less
   | inr most ↦ get_or_past (replicate count false) n false (subst (λ k. k ≤ n) (sym (length-replicate count false)) most)
 ]
-  where
-    split : (a b : ℕ) → (a < b) ⊎ (b ≤ a)
-    split a b = grind arith
 
 has-more : (numbers : List ℕ) (k x n : ℕ) → k < length numbers → x ≡ get_or numbers k x → has (take (k + 1) numbers) n ≡ (has (take k numbers) n || (x == n))
 has-more numbers k x n less is = list_any_more (λ m. m == n) numbers k x less ∙ ap (λ m. has (take k numbers) n || (m == n)) (sym is)
@@ -84,8 +71,8 @@ new-and false false false true t = refl
 pub marks-begin : (marked : List Bool) (left : List ℕ) (numbers : List ℕ) → Marks (take 0 numbers) marked left marked left
 marks-begin marked left numbers = record {
   len = refl;
-  marks = λ n. or-none (is_marked marked n);
-  adds = λ n. or-none (has left n);
+  marks = λ n. sym (or-none (is_marked marked n));
+  adds = λ n. sym (or-none (has left n));
   work = refl;
 }
 

@@ -20,6 +20,7 @@ use Rattle.efrp_types.specs.NameFaults.{fault_if, index_fault, use_faults, claus
 use Rattle.efrp_types.specs.Numbers.{decl_number}
 use Rattle.efrp_types.proofs.NodeLaws.{both-none, some-fault}
 use Rattle.efrp_types.proofs.NumberLaws.{decl_number_agrees, decl_number_within, item_at, numbered}
+use Rattle.causality.proofs.ChoiceFacts.{either, or-none}
 
 pub same_bytes : (x : List ℕ) → bytes_eq x x ≡ true
 same_bytes x = (bytes_eq-Decides x x).1 refl
@@ -68,31 +69,23 @@ module _ (p : ProgramTree) where
     known-name x None e = absurd (some-fault (UnknownName x) [] e)
     known-name x (Some d) e = (d, refl)
 
-    either : (xs ys : List (List ℕ)) (y : List ℕ) → list_any (bytes_eq y) (xs ++ ys) ≡ true → (list_any (bytes_eq y) xs ≡ true) ⊎ (list_any (bytes_eq y) ys ≡ true)
-    either xs ys y h = by_first (list_any (bytes_eq y) xs) (sym (list_any-append (bytes_eq y) xs ys) ∙ h)
-      where
-        by_first : (b : Bool) → (b || list_any (bytes_eq y) ys) ≡ true → (b ≡ true) ⊎ (list_any (bytes_eq y) ys ≡ true)
-        by_first true e = inl refl
-        by_first false e = inr e
-
-    or-none : (b : Bool) → (b || false) ≡ true → b ≡ true
-    or-none true h = refl
-    or-none false h = h
+    in-part : (xs ys : List (List ℕ)) (y : List ℕ) → list_any (bytes_eq y) (xs ++ ys) ≡ true → (list_any (bytes_eq y) xs ≡ true) ⊎ (list_any (bytes_eq y) ys ≡ true)
+    in-part xs ys y h = either (list_any (bytes_eq y) xs) (list_any (bytes_eq y) ys) (sym (list_any-append (bytes_eq y) xs ys) ∙ h)
 
     names-known : (e : Tree) → use_faults p e ≡ [] → (y : List ℕ) → list_any (bytes_eq y) (names_in e) ≡ true → Known y
     names-known (Const literal) none y h = absurd (false≢true h)
-    names-known (Name x) none y h = subst Known (sym ((bytes_eq-Decides y x).0 (or-none (bytes_eq y x) h))) (known-name x (decl_named p.decls x) none)
+    names-known (Name x) none y h = subst Known (sym ((bytes_eq-Decides y x).0 (sym (or-none (bytes_eq y x)) ∙ h))) (known-name x (decl_named p.decls x) none)
     names-known (Unary op a) none y h = names-known a none y h
     names-known (Binary op a b) none y h =
         let parts = both-none (use_faults p a) (use_faults p b) none in
-        elim (either (names_in a) (names_in b) y h) [ inl k ↦ names-known a parts.0 y k | inr k ↦ names-known b parts.1 y k ]
+        elim (in-part (names_in a) (names_in b) y h) [ inl k ↦ names-known a parts.0 y k | inr k ↦ names-known b parts.1 y k ]
     names-known (Shift side a amount) none y h = names-known a none y h
     names-known (If c a b) none y h =
         let parts = both-none (use_faults p c) (use_faults p a ++ use_faults p b) none in
         let more = both-none (use_faults p a) (use_faults p b) parts.1 in
-        elim (either (names_in c) (names_in a ++ names_in b) y h) [
+        elim (in-part (names_in c) (names_in a ++ names_in b) y h) [
           | inl k ↦ names-known c parts.0 y k
-          | inr k ↦ elim (either (names_in a) (names_in b) y k) [ inl m ↦ names-known a more.0 y m | inr m ↦ names-known b more.1 y m ]
+          | inr k ↦ elim (in-part (names_in a) (names_in b) y k) [ inl m ↦ names-known a more.0 y m | inr m ↦ names-known b more.1 y m ]
         ]
     names-known (Convert to a) none y h = names-known a none y h
     names-known (Look table index) none y h = names-known index (both-none (index_fault p table) (use_faults p index) none).1 y h

@@ -19,6 +19,7 @@ use Rattle.causality.specs.Orders.{IsOrder, DependsOnItself, IsFirstOn}
 use Rattle.causality.proofs.GraphFacts.{has-passes, one-fails, same_number}
 use Rattle.causality.proofs.NumberFacts.{same_bytes, known-numbered, depends-known}
 use Rattle.causality.proofs.BridgeFacts.{edge-to, edge-from, round-to, round-from, itself-known, own-numbered}
+use Rattle.causality.proofs.ChoiceFacts.{or-right}
 
 -- A definition, or none past the last.
 at-or-past : (ds : List DeclTree) (i : ℕ) → ((d : DeclTree) × (slice_get ds i ≡ Some d)) ⊎ (length ds ≤ i)
@@ -54,10 +55,6 @@ left_over : List DeclTree → List Bool → List (List ℕ)
 left_over [] bs = []
 left_over (d ∷ ds) [] = []
 left_over (d ∷ ds) (b ∷ bs) = if b then left_over ds bs else d.name ∷ left_over ds bs
-
-or-right : (a b : Bool) → b ≡ true → (a || b) ≡ true
-or-right true b h = refl
-or-right false b h = h
 
 left-in : (ds : List DeclTree) (bs : List Bool) (i : ℕ) (d : DeclTree) → slice_get ds i ≡ Some d → length bs ≡ length ds → is_marked bs i ≡ false → list_any (bytes_eq d.name) (left_over ds bs) ≡ true
 unfolding left_over

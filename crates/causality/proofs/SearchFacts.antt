@@ -9,6 +9,7 @@ use mathlib.Core.Logic.{inl, inr}
 use Rattle.causality.specs.Graphs.{has, edges, Edge, Path, IsRound, is_marked, Marks}
 use Rattle.causality.proofs.GraphFacts.{has-push, path-on, closed-path}
 use Rattle.causality.proofs.MarkFacts.{none-marked}
+use Rattle.causality.proofs.ChoiceFacts.{either, or-left, or-right}
 
 -- What is found so far: the marked numbers are those that x leads to by a path, and the edges of each lead to such, but for
 -- those that are left to do.
@@ -27,19 +28,6 @@ no-more (Some x) P Q none m = absurd (none x refl)
 pub empty : (xs : List ℕ) → length xs ≡ 0 → xs ≡ []
 empty [] e = refl
 empty (x ∷ xs) e = absurd (omega (arith, e))
-
--- One of two.
-either : (a b : Bool) → (a || b) ≡ true → (a ≡ true) ⊎ (b ≡ true)
-either true b h = inl refl
-either false b h = inr h
-
-or-left : (a b : Bool) → a ≡ true → (a || b) ≡ true
-or-left true b h = refl
-or-left false b h = absurd (false≢true h)
-
-or-right : (a b : Bool) → b ≡ true → (a || b) ≡ true
-or-right true b h = refl
-or-right false b h = h
 
 -- What is added was not marked.
 added : (o h m : Bool) → (o || (h && not m)) ≡ true → (o ≡ true) ⊎ (h ≡ true)

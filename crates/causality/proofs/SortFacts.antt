@@ -1,9 +1,8 @@
 -- An order that grows: each number is placed once, behind those to which it has an edge.
-use Rattle.std.specs.Prelude.{◌≡◌, ◌≢◌, ℕ, ◌+◌, ◌<◌, ◌≤◌, ◌⊎◌, Bool, true, false, ◌||◌, ◌==◌, List, [], ◌∷◌, ◌++◌, length, take, get_or, set, replicate, refl, if◌then◌else◌}
+use Rattle.std.specs.Prelude.{◌≡◌, ℕ, ◌+◌, ◌<◌, ◌⊎◌, Bool, true, false, ◌||◌, ◌==◌, List, [], ◌∷◌, ◌++◌, length, take, get_or, set, replicate, refl, if◌then◌else◌}
 use Rattle.std.specs.List.{All, count_by, list_all}
 use Rattle.std.proofs.Common.{sym, ap, subst, ◌∙◌, arith}
-use Rattle.std.proofs.lemmas.Bool.{false≢true}
-use Rattle.std.proofs.lemmas.Bool.Decides.{eqb_tells}
+use Rattle.std.proofs.lemmas.Bool.{eqb-true, false≢true}
 use Rattle.std.proofs.lemmas.List.{length-replicate, length-set, length-append, get_or_append_left, take-append-le}
 use Rattle.std.proofs.Math.Seq.{get_or-append_seam, take-append_seam}
 use Rattle.std.proofs.lemmas.List.Sums.{sum_by_push, AllPass-from_list_all}
@@ -13,6 +12,7 @@ use mathlib.Core.Logic.{inl, inr}
 use Rattle.causality.specs.Graphs.{has, edges, Edge, IsRound, is_marked, IsNext, IsSorted}
 use Rattle.causality.proofs.GraphFacts.{has-push, has-passes, all-pass, closed-path, first-edge}
 use Rattle.causality.proofs.MarkFacts.{marked-set, none-marked}
+use Rattle.causality.proofs.ChoiceFacts.{below-or-not, either, or-left}
 
 -- How often a number stands in an order.
 abbrev pub times : Bool → ℕ
@@ -45,24 +45,12 @@ once-more true false h = refl
 once-more false true h = refl
 once-more false false h = refl
 
-either : (a b : Bool) → (a || b) ≡ true → (a ≡ true) ⊎ (b ≡ true)
-either true b h = inl refl
-either false b h = inr h
-
-or-left : (a b : Bool) → a ≡ true → (a || b) ≡ true
-or-left true b h = refl
-or-left false b h = absurd (false≢true h)
-
 module _ (g : List (List ℕ)) (placed : List Bool) (order : List ℕ) (i : ℕ) (so_far : Sorting g placed order) (next : IsNext g placed i) where
   inside : i < length placed
   inside = let a = next.inside in let b = so_far.len in omega (arith, a, b)
 
   same : (n : ℕ) → (i == n) ≡ true → i ≡ n
-  same n h = by_number (eqb_tells i n)
-    where
-      by_number : (((i == n) ≡ true) × (i ≡ n)) ⊎ (((i == n) ≡ false) × (i ≢ n)) → i ≡ n
-      by_number (inl s) = s.1
-      by_number (inr s) = absurd (false≢true (sym s.0 ∙ h))
+  same n h = eqb-true i n h
 
   leads-to-placed : (j : ℕ) → Edge g i j → is_marked placed j ≡ true
   leads-to-placed j edge = has-passes (is_marked placed) j (edges g i) next.ready edge
@@ -114,7 +102,7 @@ sort-ends g placed order done all = record {
   once = λ n less. done.counts n ∙ ap times (marked n less);
   within = done.within;
   before = done.before;
-  no_round = λ i round. elim (split i (length g)) [
+  no_round = λ i round. elim (below-or-not i (length g)) [
     | inl less ↦ done.no_round i (marked i less) round
     | inr most ↦ let edge = first-edge g i i round.0 round.1 in false≢true (sym (ap (λ xs. has xs edge.0) (get_or_past g i [] most)) ∙ edge.1)
   ];
@@ -122,6 +110,3 @@ sort-ends g placed order done all = record {
   where
     marked : (n : ℕ) → n < length g → is_marked placed n ≡ true
     marked n less = AllPass-from_list_all (λ b. b) placed all n false (let e = done.len in omega (arith, e, less))
-
-    split : (a b : ℕ) → (a < b) ⊎ (b ≤ a)
-    split a b = grind arith

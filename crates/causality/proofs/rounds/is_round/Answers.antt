@@ -1,7 +1,7 @@
 use Rattle.std.proofs.Common.{sym, ap, subst, ◌∙◌, arith, length, false}
 use Rattle.std.proofs.lemmas.List.{length-replicate, get_or_read}
 use Rattle.causality.specs.Graphs.{Marks}
-use Rattle.causality.proofs.GraphFacts.{at-edges, read-below}
+use Rattle.causality.proofs.GraphFacts.{list-at, read-below}
 use Rattle.causality.proofs.MarkFacts.{marked-below}
 use Rattle.causality.proofs.SearchFacts.{Searching, search-goes, search-ends, y-marked, no-more, empty}
 use Rattle.causality.proofs.rounds.is_round.Goals as goal
@@ -30,7 +30,7 @@ loop-y-preserved c =
     let so_far = subst (λ l. Searching c.args.graph.now c.args.x c.loop-y.marked.items l) c.in-Some.ensures.items c.loop-y.invariant in
     let inside = marked-below c.loop-y.marked.items c.in-Some.y (y-marked c.args.graph.now c.args.x c.in-Some.y c.loop-y.marked.items _ so_far) in
     let len = c.loop-y.invariant.len in
-    let is = at-edges c.args.graph.now c.in-Some.y c.index-graph-y.result c.as_slice-in-Some.result.now (omega (arith, inside, len)) c.index-graph-y.is c.as_slice-in-Some.ensures in
+    let is = list-at c.args.graph.now c.in-Some.y c.index-graph-y.result c.as_slice-in-Some.result.now (omega (arith, inside, len)) c.index-graph-y.is c.as_slice-in-Some.ensures in
     search-goes c.args.graph.now c.args.x c.in-Some.y c.loop-y.marked.items _ so_far _ _
     (subst (λ ns. Marks ns c.loop-y.marked.items c.pop.new.self.items c.mark-in-Some.new.marked.items c.mark-in-Some.new.left.items) is c.in_ok-mark-2.ensures)
 

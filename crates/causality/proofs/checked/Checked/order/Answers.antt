@@ -2,7 +2,7 @@ use Rattle.std.proofs.Common.{ap, subst, sym, ◌∙◌, arith, get_or}
 use Rattle.frp_tree.specs.Tree.{program_tree_of}
 use Rattle.efrp_types.specs.Numbers.{event_name}
 use Rattle.causality.specs.Orders.{IsOrder}
-use Rattle.causality.proofs.GraphFacts.{at-edges}
+use Rattle.causality.proofs.GraphFacts.{list-at}
 use Rattle.causality.proofs.checked.Checked.order.Goals as goal
 
 pub returns : goal.returns
@@ -12,5 +12,5 @@ returns c =
     let less = c.requires in
     let same = c.args.self.now.events in
     let p = program_tree_of c.args.self.now.typed.program in
-    subst (IsOrder p (event_name p c.args.event)) (sym (at-edges orders c.args.event _ _ (omega (arith, less, same)) is c.as_slice-2.ensures))
+    subst (IsOrder p (event_name p c.args.event)) (sym (list-at orders c.args.event _ _ (omega (arith, less, same)) is c.as_slice-2.ensures))
     (c.args.self.now.ordered c.args.event less)
