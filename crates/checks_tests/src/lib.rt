@@ -1,6 +1,8 @@
-//! Tests of the checks of programs, and of events files and models, by their public calls.
+//! Tests of the checks of programs, of reactions, and of events files and models, by their public calls.
 #![tactic(auto)]
 
+#[cfg(test)]
+mod cycle_tests;
 #[cfg(test)]
 mod event_tests;
 #[cfg(test)]

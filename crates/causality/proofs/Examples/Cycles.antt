@@ -5,10 +5,9 @@ use Rattle.std.proofs.lemmas.Bool.{false≢true}
 use Rattle.frp_tree.specs.declared.syntax.Ty.TheVariants.{U8}
 use Rattle.frp_tree.specs.declared.syntax.Lit.TheVariants as lit
 use Rattle.frp_tree.specs.Tree.{Name, DeclTree, ProgramTree}
-use Rattle.efrp_meaning.specs.Causal.{IsCausalOn}
 use Rattle.efrp_meaning.proofs.CausalLaws.{none-depends-on-itself}
-use Rattle.efrp_meaning.proofs.Examples.Programs.{event, clause, later_clause, reactive, plain, on_go, go, one_more, cycle}
-use Rattle.causality.specs.Graphs.{Edge, graph_on, edges, is_marked}
+use Rattle.efrp_meaning.proofs.Examples.Programs.{event, clause, reactive, plain, on_go, go, one_more}
+use Rattle.causality.specs.Graphs.{graph_on, edges, is_marked}
 use Rattle.causality.specs.Orders.{DependsOnItself, IsFirstCycle}
 use Rattle.causality.proofs.GraphFacts.{closed-path, has-passes}
 use Rattle.causality.proofs.BridgeFacts.{own-numbered, round-from}
