@@ -7,3 +7,5 @@ mod cycle_tests;
 mod event_tests;
 #[cfg(test)]
 mod name_tests;
+#[cfg(test)]
+mod type_tests;

@@ -36,7 +36,7 @@ pub fn passed_runs()
     ensures { (p : ProgramTree) → PassedRuns p }
 {}
 
-/// In a program that a text spells no conversion is to bool, and no table is empty.
+/// A program that a text spells keeps the limits of counts; in it no conversion is to bool, and no table is empty.
 pub fn spelled_is_well_formed()
     ensures { (p : ProgramTree) → SpelledIsWellFormed p }
 {}
