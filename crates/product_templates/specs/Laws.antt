@@ -1,8 +1,10 @@
 -- What cores and templates do, that they are sound, and how many words they take.
-use Rattle.std.specs.Prelude.{◌≡◌, ℕ, Bool, true, false, nat_lt, ◌==◌, ◌||◌, IsTrue, if◌then◌else◌, None, List, ◌++◌}
+use Rattle.std.specs.Prelude.{◌≡◌, ℕ, ◌≤◌, Bool, true, false, nat_lt, ◌==◌, ◌||◌, IsTrue, if◌then◌else◌, Some, None, List, ◌++◌}
 use Rattle.std.specs.List.{list_any}
 use Rattle.frp_tree.specs.declared.syntax.BinOp.{BinOp}
 use Rattle.frp_tree.specs.declared.syntax.BinOp.TheVariants.{Mul, Div, Rem}
+use Rattle.frp_tree.specs.declared.syntax.Ty.TheVariants as ty
+use Rattle.efrp_meaning.specs.Bounds.{binary_weight}
 use Rattle.pic_regs.specs.Bytes.{num}
 use Rattle.byte_ops.specs.declared.operations.Op.{Op}
 use Rattle.byte_ops.specs.declared.operations.Op.TheVariants.{Product}
@@ -74,5 +76,8 @@ bound_of Div true = 380
 bound_of Rem false = 85
 bound_of _ wide = 378
 
+-- These are its words, and they are within its operator's weight in a program's bounds.
 abbrev pub AreShort : BinOp → (wide : Bool) → Type 0
-AreShort f wide = IsTrue (is_product f) → words None (product_template f wide) ≡ bound_of f wide
+AreShort f wide =
+    IsTrue (is_product f)
+    → (words None (product_template f wide) ≡ bound_of f wide) × (bound_of f wide ≤ binary_weight f (Some (if wide then ty.U16 else ty.U8)))

@@ -8,7 +8,7 @@ pub fn are_sound()
     ensures { (f : BinOp) (wide : Bool) → AreSound f wide }
 {}
 
-/// The words that each template takes at most.
+/// The words that each template takes at most, within its operator's weight.
 pub fn are_short()
     ensures { (f : BinOp) (wide : Bool) → AreShort f wide }
 {}
