@@ -8,18 +8,19 @@ use Rattle.frp_tool.specs.declared.halts.Halt.{Halt}
 use Rattle.frp_tool.specs.declared.halts.Halt.TheVariants.{Said, PutFailed, Memory}
 use Rattle.frp_tool.specs.Outsides.{Outside}
 use Rattle.frp_tool.specs.Endings.{Ends, Gives, Finishes}
-use Rattle.frp_tool.specs.SourceTexts.{SourceSpells, SourceCause, source_status, source_line}
+use Rattle.counter_code.specs.Counters.{HasFirstForm}
+use Rattle.frp_tool.specs.SourceTexts.{SourceGives, SourceCause, source_status, source_line}
 use Rattle.frp_tool.specs.Writes.{Stores}
 use Rattle.frp_tool.specs.Compiles.{CompileRequest, Firmware, CompileVerdict, CompileComes, CompileLeft, NoProgram, HexFailed, MapFailed, Done, compile_status, compile_line, CompileWorks, Compiles}
 use Rattle.frp_tool.proofs.ToldFacts.{chain, keeps_trans}
 
 -- The program wasn't read.
-pub unread_works : {A : Type 0} (Good : A → Type 0) (r : CompileRequest) (a b : FilesSeen) (e : Halt) → KeepsFiles a b → Gives Good (SourceCause r.source a b) source_status (source_line r.source) (Err e) → CompileWorks r a b (Err e)
+pub unread_works : {A : Type 0} (Good : A → Type 0) (r : CompileRequest) (a b : FilesSeen) (e : Halt) → KeepsFiles a b → Gives Good (SourceCause HasFirstForm r.source a b) source_status (source_line r.source) (Err e) → CompileWorks r a b (Err e)
 unread_works Good r a b (Said due line) keeps (fault, cause, is, said) = (NoProgram fault, (cause, keeps), is, said)
 unread_works Good r a b PutFailed keeps gives = gives
 unread_works Good r a b Memory keeps gives = inl (inl keeps)
 
-module _ (r : CompileRequest) (a b c : FilesSeen) (f : Firmware) (spells : SourceSpells r.source a f.program) (keeps : KeepsFiles a b) (fewer : a.write_faults ≤ b.write_faults) where
+module _ (r : CompileRequest) (a b c : FilesSeen) (f : Firmware) (spells : SourceGives HasFirstForm r.source a f.program) (keeps : KeepsFiles a b) (fewer : a.write_faults ≤ b.write_faults) where
   -- HEX wasn't written.
   pub hex_works : (bytes : List ℕ) (e : Halt) → Stores b c r.hex bytes (Err e) → CompileWorks r a c (Err e)
   hex_works bytes (Said due line) ((rose, left), is, said) =

@@ -2,20 +2,24 @@
 use Rattle.std.proofs.Common.{◌≡◌, ℕ, ◌≤◌, false, List, Option, Some, None, Result, Ok, Err, String, string_bytes, ◌⊎◌, inl, inr, arith, refl, subst}
 use Rattle.std.specs.declared.alloc.Global.{Global}
 use Rattle.edge_io.specs.Counts.{Rose}
-use Rattle.edge_io.specs.Files.{FilesSeen}
+use Rattle.edge_io.specs.Files.{FilesSeen, KeepsFiles}
 use Rattle.edge_io.specs.Sinks.{SinkSeen}
 use Rattle.frp_tool.specs.declared.halts.Halt.{Halt}
 use Rattle.frp_tool.specs.declared.halts.Halt.TheVariants.{Said, PutFailed, Memory}
 use Rattle.frp_tool.specs.Endings.{Ends, Explained, Finishes}
 use Rattle.frp_tool.proofs.ToldFacts.{keeps_refl}
+use Rattle.frp_tool.proofs.EndingFacts.{line_due, line_settled}
 use Rattle.frp_tool.specs.declared.requests.Request.TheVariants.{Check, Compile, Run, Model, Big}
 use Rattle.frp_tool.specs.Outsides.{Outside}
 use Rattle.frp_tool.specs.Requests.{Named}
+use Rattle.frp_tool.specs.Checks.{Checks, CheckWorks}
 use Rattle.frp_tool.specs.Compiles.{CompileRequest, Compiles, CompileWorks}
 use Rattle.frp_tool.specs.RunFaults.{RunRequest}
 use Rattle.frp_tool.specs.Runs.{Runs, RunWorks}
 use Rattle.frp_tool.specs.Promises.{Explains, PromisesOf, is_built, Promises}
-use Rattle.frp_tool.proofs.CompileLaws.{line_due, line_settled, compile_promises, compile_not_two, compile_four, compile_five, compile_kept}
+use Rattle.frp_tool.proofs.CheckLaws.{check_promises, check_not_two, check_four, check_five}
+use Rattle.frp_tool.proofs.CheckFacts.{check_ends}
+use Rattle.frp_tool.proofs.CompileLaws.{compile_promises, compile_not_two, compile_four, compile_five, compile_kept}
 use Rattle.frp_tool.proofs.CompileFacts.{compile_ends}
 use Rattle.frp_tool.proofs.RunEndingFacts.{run_ends}
 use Rattle.frp_tool.proofs.RunLaws.{run_promises, run_not_two, run_four, run_five}
@@ -23,7 +27,7 @@ use Rattle.frp_tool.proofs.RunLaws.{run_promises, run_not_two, run_four, run_fiv
 -- How a call ends, by its request: one case a command.
 abbrev pub EndsSo : Option Named → Outside → Outside → ℕ → Type 0
 EndsSo None before after status = Explains before after status
-EndsSo (Some (Check source)) before after status = Explains before after status
+EndsSo (Some (Check source)) before after status = Checks source before after status
 EndsSo (Some (Compile s h m)) before after status = Compiles (record { source = s; hex = h; map = m }) before after status
 EndsSo (Some (Run h m s)) before after status = Runs (record { hex = h; map = m; script = s }) before after status
 EndsSo (Some (Model source events)) before after status = Explains before after status
@@ -46,7 +50,14 @@ explained request before after status unbuilt promised h = record {
 
 pub promises : (request : Option Named) (before after : Outside) (status : ℕ) → EndsSo request before after status → Promises request before after status
 promises None before after status h = explained None before after status refl h h
-promises (Some (Check source)) before after status h = explained (Some (Check source)) before after status refl h h
+promises (Some (Check source)) before after status h = record {
+  command = check_promises source before after status h;
+  zero = λ e. refl;
+  two = ((λ e. absurd (check_not_two source before after status h e)), λ e. absurd cc);
+  four = check_four source before after status h;
+  five = λ e. inr (check_five source before after status h e);
+  files = λ some small. h.0;
+}
 promises (Some (Compile s x m)) before after status h =
     let r : CompileRequest = record { source = s; hex = x; map = m } in
     record {
@@ -94,8 +105,8 @@ module _ (request : Option Named) (before : Outside) (out : SinkSeen) (status : 
   pub none_keeps : None ≡ request → Explained work → Promises request before (left before.files) status
   none_keeps is given = of_request None before.files is (explain_ends before out status work given ends)
 
-  pub check_keeps : (s : List ℕ) → Some (Check s) ≡ request → Explained work → Promises request before (left before.files) status
-  check_keeps s is given = of_request (Some (Check s)) before.files is (explain_ends before out status work given ends)
+  pub check_keeps : (s : List ℕ) (files : FilesSeen) → Some (Check s) ≡ request → KeepsFiles before.files files → CheckWorks s before.files files work → Promises request before (left files) status
+  check_keeps s files is keeps works = of_request (Some (Check s)) files is (check_ends s before files out status keeps work works ends)
 
   pub model_keeps : (s e : List ℕ) → Some (Model s e) ≡ request → Explained work → Promises request before (left before.files) status
   model_keeps s e is given = of_request (Some (Model s e)) before.files is (explain_ends before out status work given ends)

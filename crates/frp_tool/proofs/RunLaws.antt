@@ -15,8 +15,8 @@ use Rattle.frp_tool.specs.declared.inputs.Inputs.{Inputs}
 use Rattle.frp_tool.specs.declared.inputs.Parts.{Parts}
 use Rattle.frp_tool.specs.Outsides.{Outside}
 use Rattle.frp_tool.specs.Endings.{DueOrYielded}
-use Rattle.frp_tool.specs.Reads.{NotHeld, NotRead, TooLong, IsReadable, IsLong}
-use Rattle.frp_tool.specs.RunFaults.{RunRequest, IsNext, AreInputs, AreParts, RunFault, FileUnread, BadHex, BadMap, BadScript, fault_status, IsFirstFault}
+use Rattle.frp_tool.specs.Reads.{NotHeld, NotRead, TooLong, IsReadable, IsLong, IsNext}
+use Rattle.frp_tool.specs.RunFaults.{RunRequest, names_of, AreInputs, AreParts, RunFault, FileUnread, BadHex, BadMap, BadScript, fault_status, IsFirstFault}
 use Rattle.frp_tool.specs.Runs.{RunVerdict, NoRun, Stops, Ended, run_status, run_text, RunCause, RunEnds, Runs, StopsAt, GoesToEnd, RunDone, RunRefuses, RunPromises}
 use Rattle.frp_tool.proofs.ToldFacts.{if_both, at_told}
 
@@ -149,7 +149,7 @@ module _ (r : RunRequest) (before after : Outside) (status : ℕ) where
   one (Stops p step address why) (cause, is, put) e = inr (inr (p, cause.0, step, address, why, cause.1))
   one (Ended p) (cause, is, put) e = absurd (omega arith)
 
-  three : (v : RunVerdict) → Settles r before after status v → status ≡ 3 → IfTold before.files (λ held. (name : List ℕ) × IsNext r held name × (held name ≡ None))
+  three : (v : RunVerdict) → Settles r before after status v → status ≡ 3 → IfTold before.files (λ held. (name : List ℕ) × IsNext (names_of r) held name × (held name ≡ None))
   three (NoRun (FileUnread name NotHeld)) (cause, is, put) e = if_both before.files _ _ _ (λ held next none. (name, next, none)) cause.0 cause.1
   three (NoRun (FileUnread name NotRead)) (cause, is, put) e = absurd (omega arith)
   three (NoRun (FileUnread name TooLong)) (cause, is, put) e = absurd (omega arith)
@@ -200,15 +200,15 @@ module _ (r : RunRequest) (before after : Outside) (status : ℕ) where
 
   -- Where the name that is next isn't held, a file wasn't read: that one, or one before whose read failed.
   module _ (held : Held) (told : before.files.told ≡ Some held) where
-    held_all : (name : List ℕ) → IsNext r held name → held name ≡ None → (i : Inputs) → AreInputs r before.files i → ⊥
+    held_all : (name : List ℕ) → IsNext (names_of r) held name → held name ≡ None → (i : Inputs) → AreInputs r before.files i → ⊥
     held_all name next none i are =
         not_readable held name none (named (IsReadable held) _ next.earlier next.later name next.order (all_readable r held i (inputs_at r before.files held i told are)))
 
-    missing : (name : List ℕ) → IsNext r held name → held name ≡ None → (Rose before.files.read_faults after.files.read_faults → ⊥) → (v : RunVerdict) → RunCause r before.files after.files v → run_status v ≡ 3
+    missing : (name : List ℕ) → IsNext (names_of r) held name → held name ≡ None → (Rose before.files.read_faults after.files.read_faults → ⊥) → (v : RunVerdict) → RunCause r before.files after.files v → run_status v ≡ 3
     missing name next none reads (NoRun (FileUnread other NotHeld)) cause = refl
     missing name next none reads (NoRun (FileUnread other NotRead)) cause = absurd (reads cause.1.0)
     missing name next none reads (NoRun (FileUnread other TooLong)) cause =
-        let next' : IsNext r held other = at_told before.files held (λ h. IsNext r h other) told cause.0 in
+        let next' : IsNext (names_of r) held other = at_told before.files held (λ h. IsNext (names_of r) h other) told cause.0 in
         let long : IsLong held other = at_told before.files held (λ h. IsLong h other) told cause.1 in
         absurd (⊎_elim
         (λ (e : name ≡ other). not_long held name none (subst (IsLong held) (sym e) long))
@@ -224,12 +224,12 @@ module _ (r : RunRequest) (before after : Outside) (status : ℕ) where
     completed : (i : Inputs) (p : Parts) → AreHeld r held i → AreParts i p → (Rose before.files.read_faults after.files.read_faults → ⊥) → (v : RunVerdict) → RunCause r before.files after.files v
         → ((run_status v ≡ 0) × GoesToEnd p) ⊎ ((run_status v ≡ 1) × (step : ℕ) × (address : ℕ) × (why : Why) × StopsAt p step address why)
     completed i p are parts reads (NoRun (FileUnread name NotHeld)) cause =
-        let next : IsNext r held name = at_told before.files held (λ h. IsNext r h name) told cause.0 in
+        let next : IsNext (names_of r) held name = at_told before.files held (λ h. IsNext (names_of r) h name) told cause.0 in
         let none : held name ≡ None = at_told before.files held (λ h. h name ≡ None) told cause.1 in
         absurd (not_readable held name none (named (IsReadable held) _ next.earlier next.later name next.order (all_readable r held i are)))
     completed i p are parts reads (NoRun (FileUnread name NotRead)) cause = absurd (reads cause.1.0)
     completed i p are parts reads (NoRun (FileUnread name TooLong)) cause =
-        let next : IsNext r held name = at_told before.files held (λ h. IsNext r h name) told cause.0 in
+        let next : IsNext (names_of r) held name = at_told before.files held (λ h. IsNext (names_of r) h name) told cause.0 in
         let long : IsLong held name = at_told before.files held (λ h. IsLong h name) told cause.1 in
         absurd (long_readable held name (named (IsReadable held) _ next.earlier next.later name next.order (all_readable r held i are)) long)
     completed i p are parts reads (NoRun (BadHex fault)) (j, are', first) = absurd (no_faults r held i j p (BadHex fault) are parts (inputs_at r before.files held j told are') first)
@@ -252,10 +252,10 @@ module _ (r : RunRequest) (before after : Outside) (status : ℕ) where
   run_one : Runs r before after status → status ≡ 1 → RunRefuses r before
   run_one h e = let v = verdict r before after status h (omega (arith, e)) in one v.0 v.1 e
 
-  run_three : Runs r before after status → status ≡ 3 → IfTold before.files (λ held. (name : List ℕ) × IsNext r held name × (held name ≡ None))
+  run_three : Runs r before after status → status ≡ 3 → IfTold before.files (λ held. (name : List ℕ) × IsNext (names_of r) held name × (held name ≡ None))
   run_three h e = let v = verdict r before after status h (omega (arith, e)) in three v.0 v.1 e
 
-  run_missing : Runs r before after status → (held : Held) (name : List ℕ) → before.files.told ≡ Some held → IsNext r held name → held name ≡ None → (Rose before.files.read_faults after.files.read_faults → ⊥) → DueOrYielded 3 status
+  run_missing : Runs r before after status → (held : Held) (name : List ℕ) → before.files.told ≡ Some held → IsNext (names_of r) held name → held name ≡ None → (Rose before.files.read_faults after.files.read_faults → ⊥) → DueOrYielded 3 status
   run_missing (keeps, inl h) held name told next none reads = inr (inr h.0)
   run_missing (keeps, inr (v, (cause, ends))) held name told next none reads =
       subst (λ (n : ℕ). DueOrYielded n status) (missing held told name next none reads v cause) (due _ _ _ _ _ ends)

@@ -18,9 +18,6 @@ use Rattle.arrival_script.specs.declared.scripts.Cause.{Cause}
 use Rattle.arrival_script.specs.declared.scripts.ScriptFault.{ScriptFault}
 use Rattle.arrival_script.specs.declared.scripts.ScriptFault.TheVariants as scripts
 use Rattle.arrival_script.specs.Scripts as script
-use Rattle.counter_code.specs.declared.counters.Counter.{Counter}
-use Rattle.counter_code.specs.Counters.{IsCounter, program_of}
-use Rattle.frp_tool.specs.SourceTexts.{Reading, Spelled, IsRead, HasNoForm, refusal_line, SourceSpells, SourceUnread, Refused, source_status, source_line, SourceCause}
 use Rattle.frp_tool.specs.RunLines.{hex_line, map_line, script_line}
 use Rattle.frp_tool.proofs.ToldFacts.{keeps_trans, told_before, if_all, if_map, if_both}
 use Rattle.frp_tool.specs.Endings.{Gives}
@@ -122,23 +119,3 @@ pub parts_halts : (r : RunRequest) (a b : FilesSeen) (i : Inputs) (e : Halt) →
     → Gives (AreParts i) (IsFirstFault i) fault_status fault_line (Err e) → Gives (ArePartsOf r a) (FaultCause r a b) fault_status fault_line (Err e)
 parts_halts r a b i e are =
     halts (AreParts i) (ArePartsOf r a) (IsFirstFault i) (FaultCause r a b) fault_status fault_status fault_line fault_line e (λ fault is. (fault, fault_of_inputs r a b i fault are is, refl, refl))
-
--- A source that wasn't read gives no program; one that was gives the program that it spells, or is refused.
-pub source_unread : {A : Type 0} (Good : A → Type 0) (source : List ℕ) (a b : FilesSeen) (e : Halt) → Gives (IsInput source a) (IsUnread source a b) unread_status (unread_line source) (Err e)
-    → Gives Good (SourceCause source a b) source_status (source_line source) (Err e)
-source_unread Good source a b e =
-    halts (IsInput source a) Good (IsUnread source a b) (SourceCause source a b) unread_status source_status (unread_line source) (source_line source) e (λ why is. (SourceUnread why, is, refl, refl))
-
-source_spells : (source : List ℕ) (a : FilesSeen) (text slice : List ℕ) (c : Counter) → IsInput source a text → slice ≡ text → IsCounter c → IsRead slice (Spelled (program_of c)) → SourceSpells source a (program_of c)
-source_spells source a text slice c is same fine read = ((c, fine, refl), if_map a _ _ (λ held at. (text, at, subst (λ (t : List ℕ). IsRead t (Spelled (program_of c))) same read)) is.0)
-
-source_refused : (source : List ℕ) (a b : FilesSeen) (text slice : List ℕ) (reading : Reading) → IsInput source a text → slice ≡ text → IsRead slice reading → HasNoForm reading → SourceCause source a b (Refused reading)
-source_refused source a b text slice reading is same read unfit = (if_map a _ _ (λ held at. (text, at, (is.1, subst (λ (t : List ℕ). IsRead t reading) same read))) is.0, unfit)
-
-pub source_read : (source : List ℕ) (a b : FilesSeen) (text slice : List ℕ) (answer : Result Counter Halt) → IsInput source a text → slice ≡ text
-    → Gives (λ (c : Counter). IsCounter c × IsRead slice (Spelled (program_of c))) (λ (reading : Reading). IsRead slice reading × HasNoForm reading) (λ reading. 1) refusal_line answer
-    → Gives (λ (c : Counter). IsCounter c × SourceSpells source a (program_of c)) (SourceCause source a b) source_status (source_line source) answer
-source_read source a b text slice (Ok c) is same gives = (gives.0, source_spells source a text slice c is same gives.0 gives.1)
-source_read source a b text slice (Err e) is same gives =
-    halts (λ (c : Counter). IsCounter c × IsRead slice (Spelled (program_of c))) (λ (c : Counter). IsCounter c × SourceSpells source a (program_of c)) (λ (reading : Reading). IsRead slice reading × HasNoForm reading) (SourceCause source a b)
-    (λ reading. 1) source_status refusal_line (source_line source) e (λ reading bad. (Refused reading, source_refused source a b text slice reading is same bad.0 bad.1, refl, refl)) gives

@@ -1,8 +1,7 @@
 -- What is promised of `compile SRC HEX MAP`.
-use Rattle.std.specs.Prelude.{◌≡◌, ℕ, ◌<◌, ◌≤◌, List, length, Option, Some, None, Result, Ok, Err, String, string_bytes, codes, ◌⊎◌}
+use Rattle.std.specs.Prelude.{◌≡◌, ℕ, List, Option, Some, None, Result, Ok, Err, String, string_bytes, codes, ◌⊎◌}
 use Rattle.std.specs.declared.alloc.Global.{Global}
-use Rattle.edge_io.specs.declared.outside.TheConstants.{LONGEST_FILE}
-use Rattle.edge_io.specs.Files.{Held, FilesSeen, SameOthers, BothTold, IfTold, KeepsFiles}
+use Rattle.edge_io.specs.Files.{Held, FilesSeen, SameOthers, BothTold, KeepsFiles}
 use Rattle.edge_io.specs.Sinks.{Appends}
 use Rattle.edge_io.specs.Counts.{Rose}
 use Rattle.map_file.specs.declared.maps.Map.{Map}
@@ -17,8 +16,8 @@ use Rattle.frp_tool.specs.declared.halts.Halt.{Halt}
 use Rattle.frp_tool.specs.declared.halts.Halt.TheVariants as halt
 use Rattle.frp_tool.specs.Lines.{named_line, summary}
 use Rattle.frp_tool.specs.Outsides.{Outside}
-use Rattle.frp_tool.specs.Endings.{Ends, DueOrYielded}
-use Rattle.frp_tool.specs.SourceTexts.{Reading, Reads, IsRead, HasNoForm, refusal_line, OfSource, SourceSpells, SourceFault, source_status, source_line, SourceCause}
+use Rattle.frp_tool.specs.Endings.{Ends}
+use Rattle.frp_tool.specs.SourceTexts.{SourceGives, SourceFault, source_status, source_line, SourceCause, SourceRefuses, SourceTells, SourceMisses}
 use Rattle.frp_tool.specs.Writes.{Has, SameButTwo}
 
 -- The names that `compile` is given.
@@ -59,10 +58,10 @@ compile_line r (Done f) = summary f.map f.program
 
 -- Why a verdict comes.
 abbrev pub CompileCause : CompileRequest → FilesSeen → FilesSeen → CompileVerdict → Type 0
-CompileCause r before after (NoProgram fault) = SourceCause r.source before after fault
-CompileCause r before after (HexFailed p) = SourceSpells r.source before p × Rose before.write_faults after.write_faults
-CompileCause r before after (MapFailed f) = SourceSpells r.source before f.program × Rose before.write_faults after.write_faults
-CompileCause r before after (Done f) = SourceSpells r.source before f.program
+CompileCause r before after (NoProgram fault) = SourceCause HasFirstForm r.source before after fault
+CompileCause r before after (HexFailed p) = SourceGives HasFirstForm r.source before p × Rose before.write_faults after.write_faults
+CompileCause r before after (MapFailed f) = SourceGives HasFirstForm r.source before f.program × Rose before.write_faults after.write_faults
+CompileCause r before after (Done f) = SourceGives HasFirstForm r.source before f.program
 
 -- HEX holds its bytes of the firmware, and MAP the text of the map.
 abbrev pub HexIsWhole : CompileRequest → Held → Firmware → Type 0
@@ -90,7 +89,7 @@ CompileComes r before after v = CompileCause r before after v × CompileLeft r b
 abbrev pub CompileCut : CompileRequest → FilesSeen → FilesSeen → Type 0
 CompileCut r before after =
     KeepsFiles before after
-    ⊎ ((f : Firmware) × SourceSpells r.source before f.program × BothTold before after (λ old new. HexIsWhole r new f × SameOthers old new r.hex))
+    ⊎ ((f : Firmware) × SourceGives HasFirstForm r.source before f.program × BothTold before after (λ old new. HexIsWhole r new f × SameOthers old new r.hex))
 
 -- What the work of a `compile` comes to before its line is put: a verdict, of which `Done` alone is no halt; or memory ran
 -- out, before there was a verdict or behind it.
@@ -112,29 +111,10 @@ Compiles r before after status =
 -- are firmware for it and react in time, those of MAP being the text of a map; all other files are as before; and the summary
 -- of that map was put.
 abbrev pub CompileDone : CompileRequest → Outside → Outside → Type 0
-CompileDone r before after = (p : ProgramTree) × SourceSpells r.source before.files p
+CompileDone r before after = (p : ProgramTree) × SourceGives HasFirstForm r.source before.files p
     × (hex : List ℕ) × (m : Map) × IsFirmware p hex (map_text m) × IsScheduled p hex (map_text m)
     × BothTold before.files after.files (λ old new. Has new r.hex hex × Has new r.map (map_text m) × OthersAsBefore r old new)
     × Appends before.out.taken after.out.taken (summary m p)
-
--- 1 comes only where the source is too long, or is read as no program of the first form, where files are told. In the second
--- case the line was put that says why.
-abbrev pub CompileRefuses : CompileRequest → Outside → Outside → Type 0
-CompileRefuses r before after =
-    OfSource r.source before.files (λ text. LONGEST_FILE < length text)
-    ⊎ ((reading : Reading) × OfSource r.source before.files (λ text. IsRead text reading) × HasNoForm reading × Appends before.out.taken after.out.taken (refusal_line reading))
-
--- Where files are told, the source is short enough to be read, it has a fault or spells a program that hasn't the first form,
--- and no read fault is counted: the status is 1 and the line is put that says why, or it is 5 or 6.
-abbrev pub CompileTells : CompileRequest → Outside → Outside → ℕ → Type 0
-CompileTells r before after status = (held : Held) (text : List ℕ) (reading : Reading) → before.files.told ≡ Some held → held r.source ≡ Some text → length text ≤ LONGEST_FILE
-    → Reads text reading → HasNoForm reading → (Rose before.files.read_faults after.files.read_faults → ⊥)
-    → Ends before.out after.out 1 (refusal_line reading) status
-
--- 3 comes exactly where the source isn't held, where files are told.
-abbrev pub CompileMisses : CompileRequest → Outside → ℕ → Type 0
-CompileMisses r before status =
-    (status ≡ 3 → IfTold before.files (λ held. held r.source ≡ None)) × ((held : Held) → before.files.told ≡ Some held → held r.source ≡ None → DueOrYielded 3 status)
 
 -- Where files are told, the source spells a program of the first form, and no fault is counted, the status is 0 or 6.
 abbrev pub CompileCompletes : CompileRequest → Outside → Outside → ℕ → Type 0
@@ -147,9 +127,9 @@ CompileCompletes r before after status = (held : Held) (text : List ℕ) (p : Pr
 pub record CompilePromises (r : CompileRequest) (before after : Outside) (status : ℕ) : Type 0 where
   pub ends : Compiles r before after status
   pub done : status ≡ 0 → CompileDone r before after
-  pub one : status ≡ 1 → CompileRefuses r before after
-  pub told : CompileTells r before after status
-  pub three : CompileMisses r before status
+  pub one : status ≡ 1 → SourceRefuses HasFirstForm r.source before after
+  pub told : SourceTells HasFirstForm r.source before after status
+  pub three : SourceMisses r.source before status
   pub files : BothTold before.files after.files (OthersAsBefore r)
   pub complete : CompileCompletes r before after status
 

@@ -1,3 +1,4 @@
+pub mod Checks
 pub mod Compiles
 pub mod CounterParts
 pub mod Endings

@@ -7,6 +7,7 @@ use Rattle.frp_tool.specs.Lines.{usage}
 use Rattle.frp_tool.specs.Outsides.{Outside}
 use Rattle.frp_tool.specs.Endings.{Ends, DueOrYielded}
 use Rattle.frp_tool.specs.Requests.{Named}
+use Rattle.frp_tool.specs.Checks.{CheckPromises}
 use Rattle.frp_tool.specs.Compiles.{CompilePromises}
 use Rattle.frp_tool.specs.Runs.{RunPromises}
 
@@ -17,7 +18,7 @@ Explains before after status = KeepsFiles before.files after.files × Ends befor
 -- What is promised of a request: one case a command.
 abbrev pub PromisesOf : Option Named → Outside → Outside → ℕ → Type 0
 PromisesOf None before after status = Explains before after status
-PromisesOf (Some (Check source)) before after status = Explains before after status
+PromisesOf (Some (Check source)) before after status = CheckPromises source before after status
 PromisesOf (Some (Compile s h m)) before after status = CompilePromises (record { source = s; hex = h; map = m }) before after status
 PromisesOf (Some (Run h m s)) before after status = RunPromises (record { hex = h; map = m; script = s }) before after status
 PromisesOf (Some (Model source events)) before after status = Explains before after status
@@ -26,7 +27,7 @@ PromisesOf (Some (Big number hex map)) before after status = Explains before aft
 -- Whether the words form a command that is built.
 abbrev pub is_built : Option Named → Bool
 is_built None = false
-is_built (Some (Check source)) = false
+is_built (Some (Check source)) = true
 is_built (Some (Compile source hex map)) = true
 is_built (Some (Run hex map script)) = true
 is_built (Some (Model source events)) = false

@@ -1,5 +1,6 @@
 -- What a command finds where it reads a file: its bytes, or one of three faults.
-use Rattle.std.specs.Prelude.{◌≡◌, ℕ, ◌<◌, ◌≤◌, List, length, Some, None, codes}
+use Rattle.std.specs.Prelude.{◌≡◌, ℕ, ◌<◌, ◌≤◌, List, ◌∷◌, ◌++◌, length, Some, None, codes}
+use Rattle.std.specs.List.{AllByRecursion}
 use Rattle.edge_io.specs.declared.outside.TheConstants.{LONGEST_FILE}
 use Rattle.edge_io.specs.Files.{Held, FilesSeen, IfTold}
 use Rattle.edge_io.specs.Counts.{Rose}
@@ -28,6 +29,13 @@ IsReadable held name = (text : List ℕ) × (held name ≡ Some text) × (length
 -- A file of this name is held, and is too long to be read.
 abbrev pub IsLong : Held → List ℕ → Type 0
 IsLong held name = (text : List ℕ) × (held name ≡ Some text) × (LONGEST_FILE < length text)
+
+-- Of the files that a command reads, in order, this is one, and all before it are held and short enough.
+pub record IsNext (names : List (List ℕ)) (held : Held) (name : List ℕ) : Type 0 where
+  pub earlier : List (List ℕ)
+  pub later : List (List ℕ)
+  pub order : names ≡ earlier ++ name ∷ later
+  pub readable : AllByRecursion (IsReadable held) earlier
 
 -- What was met where a file wasn't read.
 abbrev pub IsUnread : List ℕ → FilesSeen → FilesSeen → Unread → Type 0

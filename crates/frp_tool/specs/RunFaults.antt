@@ -1,6 +1,5 @@
 -- Why there is no run: what `run` finds in the three files that it reads, in order, and the first fault of their bytes.
 use Rattle.std.specs.Prelude.{◌≡◌, ℕ, ◌≤◌, List, [], ◌∷◌, ◌++◌, length, None}
-use Rattle.std.specs.List.{AllByRecursion}
 use Rattle.edge_io.specs.declared.outside.TheConstants.{LONGEST_FILE}
 use Rattle.edge_io.specs.Files.{Held, FilesSeen, IfTold}
 use Rattle.hex_file.specs.declared.images.Image.{Image}
@@ -15,7 +14,7 @@ use Rattle.arrival_script.specs.declared.scripts.Cause.{Cause}
 use Rattle.arrival_script.specs.Scripts as script
 use Rattle.frp_tool.specs.declared.inputs.Inputs.{Inputs}
 use Rattle.frp_tool.specs.declared.inputs.Parts.{Parts}
-use Rattle.frp_tool.specs.Reads.{Unread, unread_status, unread_line, IsReadable, IsUnread, IsInput}
+use Rattle.frp_tool.specs.Reads.{Unread, unread_status, unread_line, IsNext, IsUnread, IsInput}
 use Rattle.frp_tool.specs.RunLines.{hex_line, map_line, script_line}
 
 -- The names that `run` is given.
@@ -24,12 +23,9 @@ pub record RunRequest : Type 0 where
   pub map : List ℕ
   pub script : List ℕ
 
--- A name of the request, and all names before it, in order, are held and short enough.
-pub record IsNext (r : RunRequest) (held : Held) (name : List ℕ) : Type 0 where
-  pub earlier : List (List ℕ)
-  pub later : List (List ℕ)
-  pub order : r.hex ∷ r.map ∷ r.script ∷ [] ≡ earlier ++ name ∷ later
-  pub readable : AllByRecursion (IsReadable held) earlier
+-- The files that it reads, in order.
+abbrev pub names_of : RunRequest → List (List ℕ)
+names_of r = r.hex ∷ r.map ∷ r.script ∷ []
 
 -- The bytes of the three files.
 abbrev pub AreInputs : RunRequest → FilesSeen → Inputs → Type 0
@@ -86,7 +82,7 @@ IsFirstFault i (BadScript n cause) = MeansImage i × IsMapText i.map × script.F
 
 -- Why a fault comes. All files are read, in order, before the first is tested.
 abbrev pub FaultCause : RunRequest → FilesSeen → FilesSeen → RunFault → Type 0
-FaultCause r before after (FileUnread name why) = IfTold before (λ held. IsNext r held name) × IsUnread name before after why
+FaultCause r before after (FileUnread name why) = IfTold before (λ held. IsNext (names_of r) held name) × IsUnread name before after why
 FaultCause r before after (BadHex fault) = (i : Inputs) × AreInputs r before i × IsFirstFault i (BadHex fault)
 FaultCause r before after (BadMap n) = (i : Inputs) × AreInputs r before i × IsFirstFault i (BadMap n)
 FaultCause r before after (BadScript n cause) = (i : Inputs) × AreInputs r before i × IsFirstFault i (BadScript n cause)

@@ -14,9 +14,9 @@ use Rattle.frp_tool.specs.declared.inputs.Inputs.{Inputs}
 use Rattle.frp_tool.specs.declared.inputs.Parts.{Parts}
 use Rattle.frp_tool.specs.Outsides.{Outside}
 use Rattle.frp_tool.specs.Endings.{DueOrYielded, Gives}
-use Rattle.frp_tool.specs.Reads.{IsLong}
+use Rattle.frp_tool.specs.Reads.{IsLong, IsNext}
 use Rattle.frp_tool.specs.RunLines.{stop_line}
-use Rattle.frp_tool.specs.RunFaults.{RunRequest, RunFault, fault_status, fault_line, FaultCause, IsNext, IsFirstFault, AreInputs, AreParts, ArePartsOf}
+use Rattle.frp_tool.specs.RunFaults.{RunRequest, RunFault, fault_status, fault_line, FaultCause, names_of, IsFirstFault, AreInputs, AreParts, ArePartsOf}
 
 -- The run of the image from power-on, under what the script says comes from outside.
 abbrev pub log_of : Parts → Log
@@ -111,7 +111,7 @@ RunDone r before after = (p : Parts) × ArePartsOf r before.files p × GoesToEnd
 
 -- A file is too long that is read next.
 abbrev pub FindsLong : RunRequest → Outside → Type 0
-FindsLong r before = IfTold before.files (λ held. (name : List ℕ) × IsNext r held name × IsLong held name)
+FindsLong r before = IfTold before.files (λ held. (name : List ℕ) × IsNext (names_of r) held name × IsLong held name)
 
 -- The three files are read, and the bytes of one have a fault.
 abbrev pub FindsFault : RunRequest → Outside → Type 0
@@ -130,8 +130,8 @@ RunRefuses r before = FindsLong r before ⊎ FindsFault r before ⊎ FindsStop r
 -- was counted, 3 comes.
 abbrev pub RunMisses : RunRequest → Outside → Outside → ℕ → Type 0
 RunMisses r before after status =
-    (status ≡ 3 → IfTold before.files (λ held. (name : List ℕ) × IsNext r held name × (held name ≡ None)))
-    × ((held : Held) (name : List ℕ) → before.files.told ≡ Some held → IsNext r held name → held name ≡ None → (Rose before.files.read_faults after.files.read_faults → ⊥) → DueOrYielded 3 status)
+    (status ≡ 3 → IfTold before.files (λ held. (name : List ℕ) × IsNext (names_of r) held name × (held name ≡ None)))
+    × ((held : Held) (name : List ℕ) → before.files.told ≡ Some held → IsNext (names_of r) held name → held name ≡ None → (Rose before.files.read_faults after.files.read_faults → ⊥) → DueOrYielded 3 status)
 
 -- Where files are told, the three mean this image, map and script, and no fault is counted, the status is 0 where no
 -- step of the run stops, 1 where one does, or 6.

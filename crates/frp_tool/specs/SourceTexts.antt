@@ -1,47 +1,43 @@
--- What a command finds in the source: a program of the first form, or why there is none.
-use Rattle.std.specs.Prelude.{◌≡◌, ℕ, ◌≤◌, List, length, Some}
+-- What a command finds in the source: a program that it takes, or why there is none.
+use Rattle.std.specs.Prelude.{◌≡◌, ℕ, ◌<◌, ◌≤◌, List, length, Some, None, ◌⊎◌}
 use Rattle.edge_io.specs.declared.outside.TheConstants.{LONGEST_FILE}
-use Rattle.edge_io.specs.Files.{FilesSeen, IfTold}
+use Rattle.edge_io.specs.Files.{Held, FilesSeen, IfTold}
+use Rattle.edge_io.specs.Sinks.{Appends}
+use Rattle.edge_io.specs.Counts.{Rose}
 use Rattle.frp_tree.specs.Tree.{ProgramTree}
-use Rattle.frp_tree.specs.Grammar.{Spells}
-use Rattle.efrp_syntax.specs.declared.faults.SyntaxFault.{SyntaxFault}
-use Rattle.efrp_syntax.specs.Parsed.{HasFault}
-use Rattle.counter_code.specs.Counters.{HasFirstForm}
-use Rattle.frp_tool.specs.Lines.{syntax_line, form_line}
+use Rattle.checked_source.specs.Readings.{Reading, Passing, Faulty, Misused, Cyclic, Reads, IsRead}
+use Rattle.frp_tool.specs.Lines.{syntax_line, check_line, cycle_line, form_line}
+use Rattle.frp_tool.specs.Outsides.{Outside}
+use Rattle.frp_tool.specs.Endings.{Ends, DueOrYielded}
 use Rattle.frp_tool.specs.Reads.{Unread, unread_status, unread_line, IsUnread}
 
--- What a text is read as: the program that it spells, or its fault.
-pub data Reading : Type 0 where
-  Spelled : ProgramTree → Reading
-  Faulty : SyntaxFault → Reading
+-- Which of the programs that pass the checks a command takes: some do with all.
+abbrev pub AnyProgram : ProgramTree → Type 0
+AnyProgram p = Unit {0}
 
-abbrev pub Reads : List ℕ → Reading → Type 0
-Reads text (Spelled p) = Spells text p
-Reads text (Faulty fault) = HasFault text fault
+-- A reading gives a command no program: it is a fault, or a program that the command doesn't take.
+abbrev pub IsRefused : (ProgramTree → Type 0) → Reading → Type 0
+IsRefused Takes (Passing p) = Takes p → ⊥
+IsRefused Takes (Faulty fault) = Unit {0}
+IsRefused Takes (Misused fault) = Unit {0}
+IsRefused Takes (Cyclic event name) = Unit {0}
 
--- The text is read as this, and as nothing else.
-abbrev pub IsRead : List ℕ → Reading → Type 0
-IsRead text reading = Reads text reading × ((other : Reading) → Reads text other → other ≡ reading)
-
--- It is no program of the first form.
-abbrev pub HasNoForm : Reading → Type 0
-HasNoForm (Spelled p) = HasFirstForm p → ⊥
-HasNoForm (Faulty fault) = Unit {0}
-
--- The line of a text that is no program of the first form.
+-- The line of a text that gives no program.
 abbrev pub refusal_line : Reading → List ℕ
-refusal_line (Spelled p) = form_line
+refusal_line (Passing p) = form_line
 refusal_line (Faulty fault) = syntax_line fault
+refusal_line (Misused fault) = check_line fault
+refusal_line (Cyclic event name) = cycle_line event name
 
 -- The source of this name is held, and this holds of its text, where files are told.
 abbrev pub OfSource : List ℕ → FilesSeen → (List ℕ → Type 0) → Type 0
 OfSource source before P = IfTold before (λ held. (text : List ℕ) × (held source ≡ Some text) × P text)
 
--- The program has the first form, and is what the source is read as.
-abbrev pub SourceSpells : List ℕ → FilesSeen → ProgramTree → Type 0
-SourceSpells source before p = HasFirstForm p × OfSource source before (λ text. IsRead text (Spelled p))
+-- The command takes the program, and it is what the source is read as.
+abbrev pub SourceGives : (ProgramTree → Type 0) → List ℕ → FilesSeen → ProgramTree → Type 0
+SourceGives Takes source before p = Takes p × OfSource source before (λ text. IsRead text (Passing p))
 
--- Why a source gives no program of the first form: it wasn't read; or what its text is read as.
+-- Why a source gives no program: it wasn't read; or what its text is read as.
 pub data SourceFault : Type 0 where
   SourceUnread : Unread → SourceFault
   Refused : Reading → SourceFault
@@ -55,6 +51,25 @@ source_line source (SourceUnread why) = unread_line source why
 source_line source (Refused reading) = refusal_line reading
 
 -- Why a fault comes.
-abbrev pub SourceCause : List ℕ → FilesSeen → FilesSeen → SourceFault → Type 0
-SourceCause source before after (SourceUnread why) = IsUnread source before after why
-SourceCause source before after (Refused reading) = OfSource source before (λ text. (length text ≤ LONGEST_FILE) × IsRead text reading) × HasNoForm reading
+abbrev pub SourceCause : (ProgramTree → Type 0) → List ℕ → FilesSeen → FilesSeen → SourceFault → Type 0
+SourceCause Takes source before after (SourceUnread why) = IsUnread source before after why
+SourceCause Takes source before after (Refused reading) = OfSource source before (λ text. (length text ≤ LONGEST_FILE) × IsRead text reading) × IsRefused Takes reading
+
+-- What a status says of the source of a command that reads nothing else. 1 comes only where the source is too long, or is read
+-- as no program that the command takes, where files are told. In the second case the line was put that says why.
+abbrev pub SourceRefuses : (ProgramTree → Type 0) → List ℕ → Outside → Outside → Type 0
+SourceRefuses Takes source before after =
+    OfSource source before.files (λ text. LONGEST_FILE < length text)
+    ⊎ ((reading : Reading) × OfSource source before.files (λ text. IsRead text reading) × IsRefused Takes reading × Appends before.out.taken after.out.taken (refusal_line reading))
+
+-- Where files are told, the source is short enough to be read, it is read as no program that the command takes, and no read
+-- fault is counted: the status is 1 and the line is put that says why, or it is 5 or 6.
+abbrev pub SourceTells : (ProgramTree → Type 0) → List ℕ → Outside → Outside → ℕ → Type 0
+SourceTells Takes source before after status = (held : Held) (text : List ℕ) (reading : Reading) → before.files.told ≡ Some held → held source ≡ Some text → length text ≤ LONGEST_FILE
+    → Reads text reading → IsRefused Takes reading → (Rose before.files.read_faults after.files.read_faults → ⊥)
+    → Ends before.out after.out 1 (refusal_line reading) status
+
+-- 3 comes exactly where the source isn't held, where files are told.
+abbrev pub SourceMisses : List ℕ → Outside → ℕ → Type 0
+SourceMisses source before status =
+    (status ≡ 3 → IfTold before.files (λ held. held source ≡ None)) × ((held : Held) → before.files.told ≡ Some held → held source ≡ None → DueOrYielded 3 status)

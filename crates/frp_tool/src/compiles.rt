@@ -6,7 +6,7 @@ ghost use Rattle.frp_tool.specs.Compiles.{AreTexts, CompileWorks};
 ghost use Rattle.frp_tool.specs.Lines.{summary_of};
 
 use crate::halts::Halt;
-use crate::source::read_program;
+use crate::source::read_counter;
 use crate::writes::store;
 use counter_code::Counter;
 use edge_io::Files;
@@ -79,7 +79,7 @@ pub fn compile<F: Files>(
     requires { hex.now ≢ map.now }
     ensures { CompileWorks (record { source = source.now; hex = hex.now; map = map.now }) (F.seen files.old) (F.seen files.new) result }
 {
-    let counter = read_program(alloc, source, files)?;
+    let counter = read_counter(alloc, source, files)?;
     let texts = texts_of(alloc, &counter)?;
     store(alloc, hex, texts.hex.as_slice(), files)?;
     store(alloc, map, texts.map.as_slice(), files)?;

@@ -3,6 +3,7 @@ ghost use Rattle.frp_tool.specs.Endings.{Explained};
 ghost use Rattle.frp_tool.specs.Promises.{Promises};
 ghost use Rattle.frp_tool.specs.Requests.{request_of};
 
+use crate::checks::check;
 use crate::compiles::compile;
 use crate::halts::Halt;
 use crate::requests::{Request, request_in};
@@ -33,9 +34,9 @@ pub fn efrp<F: Files, S: Sink>(alloc: Global, words: &[Text], files: &mut F, out
     ensures { Promises (request_of words.now) (record { files = F.seen files.old; out = S.seen out.old }) (record { files = F.seen files.new; out = S.seen out.new }) result }
 {
     let work = match request_in(words) {
+        Some(Request::Check { source }) => check(alloc, source, files),
         Some(Request::Compile { source, hex, map }) => compile(alloc, source, hex, map, files),
         Some(Request::Run { hex, map, script }) => run(alloc, hex, map, script, files, out),
-        Some(Request::Check { .. }) => explain(alloc),
         Some(Request::Model { .. }) => explain(alloc),
         Some(Request::Big { .. }) => explain(alloc),
         None => explain(alloc),

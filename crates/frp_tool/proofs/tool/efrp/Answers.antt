@@ -20,10 +20,11 @@ returns g c =
           w.in-Some-Run.hex.now w.in-Some-Run.map.now w.in-Some-Run.script.now (rw w.in-Some-Run.field-0-is at w.in-Some-Run.ensures.is) w.run-work.ensures.count w.run-work.ensures.works)
       | in-Some-Check w ↦
           rw w.files-is
-          (check_keeps words before out c.finish.result w.explain-work.result (rw (w.out-is, w.work-is) at c.finish.ensures) w.in-Some-Check.field-0-0.now (rw w.in-Some-Check.field-0-is at w.in-Some-Check.ensures.is) w.explain-work.ensures)
+          (check_keeps words before out c.finish.result w.check-work.result (rw (w.out-is, w.work-is) at c.finish.ensures) w.in-Some-Check.source.now (g.F.Files.seen w.check-work.new.files)
+          (rw w.in-Some-Check.field-0-is at w.in-Some-Check.ensures.is) w.check-work.ensures.unchanged w.check-work.ensures.works)
       | in-Some-Model w ↦
           rw w.files-is
-          (model_keeps words before out c.finish.result w.explain-work-in-Some-Model.result (rw (w.out-is, w.work-is) at c.finish.ensures) w.in-Some-Model.field-0-0.now w.in-Some-Model.field-0-1.now (rw w.in-Some-Model.field-0-is at w.in-Some-Model.ensures.is) w.explain-work-in-Some-Model.ensures)
+          (model_keeps words before out c.finish.result w.explain-work.result (rw (w.out-is, w.work-is) at c.finish.ensures) w.in-Some-Model.field-0-0.now w.in-Some-Model.field-0-1.now (rw w.in-Some-Model.field-0-is at w.in-Some-Model.ensures.is) w.explain-work.ensures)
       | in-Some-Big w ↦
           rw w.files-is
           (big_keeps words before out c.finish.result w.explain-work-in-Some-Big.result (rw (w.out-is, w.work-is) at c.finish.ensures) w.in-Some-Big.field-0-0 w.in-Some-Big.field-0-1.now w.in-Some-Big.field-0-2.now (rw w.in-Some-Big.field-0-is at w.in-Some-Big.ensures.is) w.explain-work-in-Some-Big.ensures)
