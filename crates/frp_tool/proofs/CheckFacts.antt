@@ -1,5 +1,5 @@
 -- The steps of `check`, put together.
-use Rattle.std.proofs.Common.{◌≡◌, ℕ, List, Option, Some, None, Result, Ok, Err, String, string_bytes, inl, inr, refl, subst}
+use Rattle.std.proofs.Common.{◌≡◌, ℕ, List, Option, Result, Ok, Err, String, string_bytes, inl, inr, refl, subst}
 use Rattle.std.specs.declared.alloc.Global.{Global}
 use Rattle.edge_io.specs.Files.{FilesSeen, KeepsFiles}
 use Rattle.edge_io.specs.Sinks.{SinkSeen}
@@ -7,7 +7,7 @@ use Rattle.frp_tool.specs.declared.halts.Halt.{Halt}
 use Rattle.frp_tool.specs.declared.halts.Halt.TheVariants.{Said, PutFailed, Memory}
 use Rattle.frp_tool.specs.Outsides.{Outside}
 use Rattle.frp_tool.specs.Endings.{Ends, Finishes}
-use Rattle.frp_tool.specs.Checks.{CheckVerdict, Bad, Good, CheckWorks, Checks}
+use Rattle.frp_tool.specs.Checks.{Bad, Good, CheckWorks, Checks}
 
 -- What is made of the work of a `check` ends it.
 module _ (source : List ℕ) (before : Outside) (files : FilesSeen) (out : SinkSeen) (status : ℕ) (keeps : KeepsFiles before.files files) where

@@ -1,5 +1,5 @@
 -- A program of the first form passes the checks.
-use Rattle.std.proofs.Common.{◌≡◌, ◌≢◌, ℕ, ◌<◌, ◌≤◌, true, false, List, [], ◌∷◌, Option, Some, None, IfSome, arith, refl, ap, sym, ◌∙◌, subst}
+use Rattle.std.proofs.Common.{◌≡◌, ◌≢◌, ℕ, ◌≤◌, true, false, List, [], ◌∷◌, Option, Some, None, IfSome, arith, refl, ap, sym, ◌∙◌, subst}
 use Rattle.std.specs.Prelude.{Bool, ◌&&◌, ◌||◌, not, cond, nat_le, option_and_then, ◌++◌}
 use Rattle.std.specs.List.{flat_map}
 use Rattle.std.specs.Str.{bytes_eq}

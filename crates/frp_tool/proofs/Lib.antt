@@ -6,10 +6,14 @@ pub mod CounterPartFacts
 pub mod CounterPassesFacts
 pub mod EndingFacts
 pub mod FirstFormFacts
+pub mod ModelFacts
+pub mod ModelLaws
+pub mod NextFacts
 pub mod PromiseLaws
 pub mod RunEndingFacts
 pub mod RunLaws
 pub mod RunStepFacts
+pub mod SerialTextFacts
 pub mod SourceFacts
 pub mod SourceLaws
 pub mod SourceStepFacts

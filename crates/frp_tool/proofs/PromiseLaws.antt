@@ -14,6 +14,7 @@ use Rattle.frp_tool.specs.Outsides.{Outside}
 use Rattle.frp_tool.specs.Requests.{Named}
 use Rattle.frp_tool.specs.Checks.{Checks, CheckWorks}
 use Rattle.frp_tool.specs.Compiles.{CompileRequest, Compiles, CompileWorks}
+use Rattle.frp_tool.specs.Models.{ModelRequest, Models, ModelWorks}
 use Rattle.frp_tool.specs.RunFaults.{RunRequest}
 use Rattle.frp_tool.specs.Runs.{Runs, RunWorks}
 use Rattle.frp_tool.specs.Promises.{Explains, PromisesOf, is_built, Promises}
@@ -21,6 +22,8 @@ use Rattle.frp_tool.proofs.CheckLaws.{check_promises, check_not_two, check_four,
 use Rattle.frp_tool.proofs.CheckFacts.{check_ends}
 use Rattle.frp_tool.proofs.CompileLaws.{compile_promises, compile_not_two, compile_four, compile_five, compile_kept}
 use Rattle.frp_tool.proofs.CompileFacts.{compile_ends}
+use Rattle.frp_tool.proofs.ModelLaws.{model_promises, model_not_two, model_four, model_five}
+use Rattle.frp_tool.proofs.ModelFacts.{model_ends}
 use Rattle.frp_tool.proofs.RunEndingFacts.{run_ends}
 use Rattle.frp_tool.proofs.RunLaws.{run_promises, run_not_two, run_four, run_five}
 
@@ -30,7 +33,7 @@ EndsSo None before after status = Explains before after status
 EndsSo (Some (Check source)) before after status = Checks source before after status
 EndsSo (Some (Compile s h m)) before after status = Compiles (record { source = s; hex = h; map = m }) before after status
 EndsSo (Some (Run h m s)) before after status = Runs (record { hex = h; map = m; script = s }) before after status
-EndsSo (Some (Model source events)) before after status = Explains before after status
+EndsSo (Some (Model source events)) before after status = Models (record { source = source; events = events }) before after status
 EndsSo (Some (Big number hex map)) before after status = Explains before after status
 
 five_explained : (before after : Outside) (status : ℕ) → Explains before after status → status ≡ 5 → Rose before.files.write_faults after.files.write_faults ⊎ Rose before.out.put_faults after.out.put_faults
@@ -78,7 +81,16 @@ promises (Some (Run x m s)) before after status h =
       five = λ e. inr (run_five r before after status h e);
       files = λ some small. h.0;
     }
-promises (Some (Model source events)) before after status h = explained (Some (Model source events)) before after status refl h h
+promises (Some (Model source events)) before after status h =
+    let r : ModelRequest = record { source = source; events = events } in
+    record {
+      command = model_promises r before after status h;
+      zero = λ e. refl;
+      two = ((λ e. absurd (model_not_two r before after status h e)), λ e. absurd cc);
+      four = model_four r before after status h;
+      five = λ e. inr (model_five r before after status h e);
+      files = λ some small. h.0;
+    }
 promises (Some (Big number hex map)) before after status h = explained (Some (Big number hex map)) before after status refl h h
 
 -- What is made of the usage line.
@@ -108,8 +120,8 @@ module _ (request : Option Named) (before : Outside) (out : SinkSeen) (status : 
   pub check_keeps : (s : List ℕ) (files : FilesSeen) → Some (Check s) ≡ request → KeepsFiles before.files files → CheckWorks s before.files files work → Promises request before (left files) status
   check_keeps s files is keeps works = of_request (Some (Check s)) files is (check_ends s before files out status keeps work works ends)
 
-  pub model_keeps : (s e : List ℕ) → Some (Model s e) ≡ request → Explained work → Promises request before (left before.files) status
-  model_keeps s e is given = of_request (Some (Model s e)) before.files is (explain_ends before out status work given ends)
+  pub model_keeps : (s e : List ℕ) (files : FilesSeen) → Some (Model s e) ≡ request → KeepsFiles before.files files → ModelWorks (record { source = s; events = e }) before.files files work → Promises request before (left files) status
+  model_keeps s e files is keeps works = of_request (Some (Model s e)) files is (model_ends (record { source = s; events = e }) before files out status keeps work works ends)
 
   pub big_keeps : (n : ℕ) (h m : List ℕ) → Some (Big n h m) ≡ request → Explained work → Promises request before (left before.files) status
   big_keeps n h m is given = of_request (Some (Big n h m)) before.files is (explain_ends before out status work given ends)

@@ -19,6 +19,7 @@ use Rattle.frp_tool.specs.Reads.{NotHeld, NotRead, TooLong, IsReadable, IsLong, 
 use Rattle.frp_tool.specs.RunFaults.{RunRequest, names_of, AreInputs, AreParts, RunFault, FileUnread, BadHex, BadMap, BadScript, fault_status, IsFirstFault}
 use Rattle.frp_tool.specs.Runs.{RunVerdict, NoRun, Stops, Ended, run_status, run_text, RunCause, RunEnds, Runs, StopsAt, GoesToEnd, RunDone, RunRefuses, RunPromises}
 use Rattle.frp_tool.proofs.ToldFacts.{if_both, at_told}
+use Rattle.frp_tool.proofs.NextFacts.{IsHeldInput, named, one_next, not_readable, long_readable, not_long}
 
 due : (before after : SinkSeen) (want : ℕ) (text : List ℕ) (status : ℕ) → RunEnds before after want text status → DueOrYielded want status
 due before after want text status (inl h) = inl h.0
@@ -39,39 +40,7 @@ verdict : (r : RunRequest) (before after : Outside) (status : ℕ) → Runs r be
 verdict r before after status (keeps, inl h) small = absurd (omega (arith, h.0))
 verdict r before after status (keeps, inr (v, (cause, ends))) small = let s = settled _ _ _ _ _ ends small in (v, (cause, s.0, s.1))
 
--- Of a request's names one that is next is held, where all are; and of two that are next one is held, or both are one.
-named : (P : List ℕ → Type 0) (names earlier later : List (List ℕ)) (name : List ℕ) → names ≡ earlier ++ name ∷ later → AllByRecursion P names → P name
-named P [] [] later name order all = let no : [] ≡ name ∷ later = order in cc
-named P [] (x ∷ earlier) later name order all = let no : [] ≡ x ∷ (earlier ++ name ∷ later) = order in cc
-named P (n ∷ names) [] later name order all = let same : n ≡ name = cc in subst P same all.0
-named P (n ∷ names) (x ∷ earlier) later name order all = let rest : names ≡ earlier ++ name ∷ later = cc in named P names earlier later name rest all.1
-
-one_next : (P : List ℕ → Type 0) (earlier earlier' later later' : List (List ℕ)) (name name' : List ℕ) → earlier ++ name ∷ later ≡ earlier' ++ name' ∷ later'
-    → AllByRecursion P earlier → AllByRecursion P earlier' → (name ≡ name') ⊎ P name ⊎ P name'
-one_next P [] [] later later' name name' same all all' = let e : name ≡ name' = cc in inl e
-one_next P [] (x ∷ earlier') later later' name name' same all all' = let e : x ≡ name = cc in inr (inl (subst P e all'.0))
-one_next P (x ∷ earlier) [] later later' name name' same all all' = let e : x ≡ name' = cc in inr (inr (subst P e all.0))
-one_next P (x ∷ earlier) (x' ∷ earlier') later later' name name' same all all' =
-    let rest : earlier ++ name ∷ later ≡ earlier' ++ name' ∷ later' = cc in one_next P earlier earlier' later later' name name' rest all.1 all'.1
-
--- What a name has under it excludes the others.
-not_readable : (held : Held) (name : List ℕ) → held name ≡ None → IsReadable held name → ⊥
-not_readable held name none is = let at : held name ≡ Some is.0 = is.1 in cc
-
-not_long : (held : Held) (name : List ℕ) → held name ≡ None → IsLong held name → ⊥
-not_long held name none is = let at : held name ≡ Some is.0 = is.1 in cc
-
-long_readable : (held : Held) (name : List ℕ) → IsReadable held name → IsLong held name → ⊥
-long_readable held name is long =
-    let at : held name ≡ Some is.0 = is.1 in
-    let at' : held name ≡ Some long.0 = long.1 in
-    let same : long.0 ≡ is.0 = cc in
-    let more : LONGEST_FILE < length is.0 = subst (λ (text : List ℕ). LONGEST_FILE < length text) same long.2 in omega (arith, is.2)
-
 -- The bytes of the three files, where the files that are held are told.
-abbrev IsHeldInput : List ℕ → Held → List ℕ → Type 0
-IsHeldInput name held text = (held name ≡ Some text) × (length text ≤ LONGEST_FILE)
-
 abbrev AreHeld : RunRequest → Held → Inputs → Type 0
 AreHeld r held i = IsHeldInput r.hex held i.hex × IsHeldInput r.map held i.map × IsHeldInput r.script held i.script
 

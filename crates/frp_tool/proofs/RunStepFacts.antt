@@ -1,7 +1,7 @@
 -- The steps of `run` before the trace, put together.
-use Rattle.std.proofs.Common.{◌≡◌, ◌≢◌, ℕ, ◌<◌, ◌≤◌, ◌⊎◌, inl, inr, List, [], ◌∷◌, Some, None, Result, Ok, Err, length, arith, refl, ◌∙◌, subst}
+use Rattle.std.proofs.Common.{◌≡◌, ◌≢◌, ℕ, ◌<◌, ◌≤◌, ◌⊎◌, inl, inr, List, [], ◌∷◌, Some, None, Err, length, arith, refl, ◌∙◌, subst}
 use Rattle.edge_io.specs.declared.outside.TheConstants.{LONGEST_FILE}
-use Rattle.edge_io.specs.Files.{FilesSeen, KeepsFiles}
+use Rattle.edge_io.specs.Files.{FilesSeen, IfTold, KeepsFiles}
 use Rattle.frp_tool.specs.declared.inputs.Inputs.{Inputs}
 use Rattle.frp_tool.specs.declared.halts.Halt.{Halt}
 use Rattle.frp_tool.specs.declared.halts.Halt.TheVariants.{Said, PutFailed, Memory}
@@ -21,7 +21,7 @@ use Rattle.arrival_script.specs.Scripts as script
 use Rattle.frp_tool.specs.RunLines.{hex_line, map_line, script_line}
 use Rattle.frp_tool.proofs.ToldFacts.{keeps_trans, told_before, if_all, if_map, if_both}
 use Rattle.frp_tool.specs.Endings.{Gives}
-use Rattle.frp_tool.specs.Reads.{Unread, NotHeld, NotRead, TooLong, unread_status, unread_line, IsUnread, IsInput}
+use Rattle.frp_tool.specs.Reads.{Unread, NotHeld, NotRead, TooLong, unread_status, unread_line, IsUnread, IsInput, IsNext}
 use Rattle.frp_tool.specs.RunFaults.{RunRequest, AreInputs, AreParts, ArePartsOf, IsScriptIn, RunFault, FileUnread, BadHex, BadMap, BadScript, fault_status, fault_line, IsFirstFault, FaultCause}
 
 -- A halt stays one where the fault is told in another way, with the same status and line.
@@ -41,33 +41,35 @@ unread_before a b c name NotRead keeps less is =
 unread_before a b c name TooLong keeps less is = told_before a b name (λ found. (text : List ℕ) × (found ≡ Some text) × (LONGEST_FILE < length text)) keeps is
 
 -- The first, the second or the third file wasn't read.
-module _ (r : RunRequest) (a b c : FilesSeen) where
-  first_unread : (why : Unread) → IsUnread r.hex a b why → FaultCause r a b (FileUnread r.hex why)
-  first_unread why is = (if_all a _ (λ held. record { earlier = []; later = r.map ∷ r.script ∷ []; order = refl; readable = tt }), is)
+module _ (a b c : FilesSeen) where
+  pub first_unread : (one : List ℕ) (later : List (List ℕ)) (why : Unread) → IsUnread one a b why → IfTold a (λ held. IsNext (one ∷ later) held one) × IsUnread one a b why
+  first_unread one later why is = (if_all a _ (λ held. record { earlier = []; later = later; order = refl; readable = tt }), is)
 
-  second_unread : (hex : List ℕ) (why : Unread) → KeepsFiles a b → a.read_faults ≤ b.read_faults → IsInput r.hex a hex → IsUnread r.map b c why → FaultCause r a c (FileUnread r.map why)
-  second_unread hex why keeps less first is = (
-    if_map a _ _ (λ held at. record { earlier = r.hex ∷ []; later = r.script ∷ []; order = refl; readable = ((hex, at, first.1), tt) }) first.0,
-    unread_before a b c r.map why keeps less is,
+  pub second_unread : (one two : List ℕ) (later : List (List ℕ)) (text : List ℕ) (why : Unread) → KeepsFiles a b → a.read_faults ≤ b.read_faults → IsInput one a text → IsUnread two b c why
+      → IfTold a (λ held. IsNext (one ∷ two ∷ later) held two) × IsUnread two a c why
+  second_unread one two later text why keeps less first is = (
+    if_map a _ _ (λ held at. record { earlier = one ∷ []; later = later; order = refl; readable = ((text, at, first.1), tt) }) first.0,
+    unread_before a b c two why keeps less is,
   )
 
-  third_unread : (hex map : List ℕ) (why : Unread) → KeepsFiles a b → a.read_faults ≤ b.read_faults → IsInput r.hex a hex → IsInput r.map a map → IsUnread r.script b c why → FaultCause r a c (FileUnread r.script why)
-  third_unread hex map why keeps less first second is = (
-    if_both a _ _ _ (λ held at at'. record { earlier = r.hex ∷ r.map ∷ []; later = []; order = refl; readable = ((hex, at, first.1), ((map, at', second.1), tt)) }) first.0 second.0,
-    unread_before a b c r.script why keeps less is,
+  third_unread : (one two three : List ℕ) (text text' : List ℕ) (why : Unread) → KeepsFiles a b → a.read_faults ≤ b.read_faults → IsInput one a text → IsInput two a text' → IsUnread three b c why
+      → IfTold a (λ held. IsNext (one ∷ two ∷ three ∷ []) held three) × IsUnread three a c why
+  third_unread one two three text text' why keeps less first second is = (
+    if_both a _ _ _ (λ held at at'. record { earlier = one ∷ two ∷ []; later = []; order = refl; readable = ((text, at, first.1), ((text', at', second.1), tt)) }) first.0 second.0,
+    unread_before a b c three why keeps less is,
   )
 
 pub first_halts : (r : RunRequest) (a b : FilesSeen) (e : Halt)
     → Gives (IsInput r.hex a) (IsUnread r.hex a b) unread_status (unread_line r.hex) (Err e) → Gives (AreInputs r a) (FaultCause r a b) fault_status fault_line (Err e)
 first_halts r a b e =
     halts (IsInput r.hex a) (AreInputs r a) (IsUnread r.hex a b) (FaultCause r a b) unread_status fault_status (unread_line r.hex) fault_line e
-    (λ why is. (FileUnread r.hex why, first_unread r a b b why is, refl, refl))
+    (λ why is. (FileUnread r.hex why, first_unread a b b r.hex (r.map ∷ r.script ∷ []) why is, refl, refl))
 
 pub second_halts : (r : RunRequest) (a b c : FilesSeen) (e : Halt) (hex : List ℕ) → KeepsFiles a b → a.read_faults ≤ b.read_faults → IsInput r.hex a hex
     → Gives (IsInput r.map b) (IsUnread r.map b c) unread_status (unread_line r.map) (Err e) → Gives (AreInputs r a) (FaultCause r a c) fault_status fault_line (Err e)
 second_halts r a b c e hex keeps less is =
     halts (IsInput r.map b) (AreInputs r a) (IsUnread r.map b c) (FaultCause r a c) unread_status fault_status (unread_line r.map) fault_line e
-    (λ why unread. (FileUnread r.map why, second_unread r a b c hex why keeps less is unread, refl, refl))
+    (λ why unread. (FileUnread r.map why, second_unread a b c r.hex r.map (r.script ∷ []) hex why keeps less is unread, refl, refl))
 
 pub third_halts : (r : RunRequest) (a b c d : FilesSeen) (e : Halt) (hex map : List ℕ) → KeepsFiles a b → KeepsFiles b c → a.read_faults ≤ b.read_faults → b.read_faults ≤ c.read_faults → IsInput r.hex a hex → IsInput r.map b map
     → Gives (IsInput r.script c) (IsUnread r.script c d) unread_status (unread_line r.script) (Err e) → Gives (AreInputs r a) (FaultCause r a d) fault_status fault_line (Err e)
@@ -75,7 +77,7 @@ third_halts r a b c d e hex map keeps keeps' less less' is is' =
     halts (IsInput r.script c) (AreInputs r a) (IsUnread r.script c d) (FaultCause r a d) unread_status fault_status (unread_line r.script) fault_line e
     (λ why unread. (
       FileUnread r.script why,
-      third_unread r a c d hex map why (keeps_trans a b c keeps keeps') (omega (arith, less, less')) is (input_before a b r.map map keeps is') unread,
+      third_unread a c d r.hex r.map r.script hex map why (keeps_trans a b c keeps keeps') (omega (arith, less, less')) is (input_before a b r.map map keeps is') unread,
       refl,
       refl,
     ))

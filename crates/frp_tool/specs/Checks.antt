@@ -1,5 +1,5 @@
 -- What is promised of `check SRC`.
-use Rattle.std.specs.Prelude.{◌≡◌, ℕ, List, Option, Some, None, Result, Ok, Err, String, string_bytes, ◌⊎◌}
+use Rattle.std.specs.Prelude.{◌≡◌, ℕ, List, Option, Some, Result, String, string_bytes, ◌⊎◌}
 use Rattle.std.specs.declared.alloc.Global.{Global}
 use Rattle.edge_io.specs.Files.{Held, FilesSeen, KeepsFiles}
 use Rattle.edge_io.specs.Sinks.{Appends}

@@ -3,6 +3,7 @@ pub mod Compiles
 pub mod CounterParts
 pub mod Endings
 pub mod Lines
+pub mod Models
 pub mod Outsides
 pub mod Promises
 pub mod Reads

@@ -9,6 +9,7 @@ use Rattle.frp_tool.specs.Endings.{Ends, DueOrYielded}
 use Rattle.frp_tool.specs.Requests.{Named}
 use Rattle.frp_tool.specs.Checks.{CheckPromises}
 use Rattle.frp_tool.specs.Compiles.{CompilePromises}
+use Rattle.frp_tool.specs.Models.{ModelPromises}
 use Rattle.frp_tool.specs.Runs.{RunPromises}
 
 -- Words that form no command that is built are answered with the usage line, and no file changes.
@@ -21,7 +22,7 @@ PromisesOf None before after status = Explains before after status
 PromisesOf (Some (Check source)) before after status = CheckPromises source before after status
 PromisesOf (Some (Compile s h m)) before after status = CompilePromises (record { source = s; hex = h; map = m }) before after status
 PromisesOf (Some (Run h m s)) before after status = RunPromises (record { hex = h; map = m; script = s }) before after status
-PromisesOf (Some (Model source events)) before after status = Explains before after status
+PromisesOf (Some (Model source events)) before after status = ModelPromises (record { source = source; events = events }) before after status
 PromisesOf (Some (Big number hex map)) before after status = Explains before after status
 
 -- Whether the words form a command that is built.
@@ -30,7 +31,7 @@ is_built None = false
 is_built (Some (Check source)) = true
 is_built (Some (Compile source hex map)) = true
 is_built (Some (Run hex map script)) = true
-is_built (Some (Model source events)) = false
+is_built (Some (Model source events)) = true
 is_built (Some (Big number hex map)) = false
 
 -- What a call promises whose words are this request, or none: what its command does, and what a status says of every request. 0 comes only where the words form a

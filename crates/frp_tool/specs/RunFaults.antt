@@ -1,7 +1,7 @@
 -- Why there is no run: what `run` finds in the three files that it reads, in order, and the first fault of their bytes.
-use Rattle.std.specs.Prelude.{◌≡◌, ℕ, ◌≤◌, List, [], ◌∷◌, ◌++◌, length, None}
+use Rattle.std.specs.Prelude.{◌≡◌, ℕ, ◌≤◌, List, [], ◌∷◌, length, None}
 use Rattle.edge_io.specs.declared.outside.TheConstants.{LONGEST_FILE}
-use Rattle.edge_io.specs.Files.{Held, FilesSeen, IfTold}
+use Rattle.edge_io.specs.Files.{FilesSeen, IfTold}
 use Rattle.hex_file.specs.declared.images.Image.{Image}
 use Rattle.hex_file.specs.declared.faults.HexFault.{HexFault}
 use Rattle.hex_file.specs.ImageOf.{IsImageOf}

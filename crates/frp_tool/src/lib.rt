@@ -2,7 +2,7 @@
 //!
 //! Contracts see the words of a command, the files before and after, the bytes that were put and the counts of
 //! faults. The program `efrp` is a thin `main` over the one public call. So far it has the commands `check`, `compile`, for
-//! programs of the first form, and `run`. A command is a case of `Request`, a file of `specs/` that says what is promised
+//! programs of the first form, `run` and `model`. A command is a case of `Request`, a file of `specs/` that says what is promised
 //! of it, and a function that does its work; `finish` puts its last line and makes its status.
 #![tactic(auto)]
 
@@ -13,6 +13,7 @@ mod fault_lines;
 mod first_form;
 mod halts;
 mod inputs;
+mod models;
 mod reads;
 mod requests;
 mod runs;

@@ -6,6 +6,7 @@ ghost use Rattle.frp_tool.specs.Requests.{request_of};
 use crate::checks::check;
 use crate::compiles::compile;
 use crate::halts::Halt;
+use crate::models::model;
 use crate::requests::{Request, request_in};
 use crate::runs::run;
 use crate::says::{NO_COMMAND, finish};
@@ -37,7 +38,7 @@ pub fn efrp<F: Files, S: Sink>(alloc: Global, words: &[Text], files: &mut F, out
         Some(Request::Check { source }) => check(alloc, source, files),
         Some(Request::Compile { source, hex, map }) => compile(alloc, source, hex, map, files),
         Some(Request::Run { hex, map, script }) => run(alloc, hex, map, script, files, out),
-        Some(Request::Model { .. }) => explain(alloc),
+        Some(Request::Model { source, events }) => model(alloc, source, events, files),
         Some(Request::Big { .. }) => explain(alloc),
         None => explain(alloc),
     };

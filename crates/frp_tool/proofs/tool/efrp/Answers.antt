@@ -24,10 +24,11 @@ returns g c =
           (rw w.in-Some-Check.field-0-is at w.in-Some-Check.ensures.is) w.check-work.ensures.unchanged w.check-work.ensures.works)
       | in-Some-Model w ↦
           rw w.files-is
-          (model_keeps words before out c.finish.result w.explain-work.result (rw (w.out-is, w.work-is) at c.finish.ensures) w.in-Some-Model.field-0-0.now w.in-Some-Model.field-0-1.now (rw w.in-Some-Model.field-0-is at w.in-Some-Model.ensures.is) w.explain-work.ensures)
+          (model_keeps words before out c.finish.result w.model-work.result (rw (w.out-is, w.work-is) at c.finish.ensures) w.in-Some-Model.source.now w.in-Some-Model.events.now (g.F.Files.seen w.model-work.new.files)
+          (rw w.in-Some-Model.field-0-is at w.in-Some-Model.ensures.is) w.model-work.ensures.unchanged w.model-work.ensures.works)
       | in-Some-Big w ↦
           rw w.files-is
-          (big_keeps words before out c.finish.result w.explain-work-in-Some-Big.result (rw (w.out-is, w.work-is) at c.finish.ensures) w.in-Some-Big.field-0-0 w.in-Some-Big.field-0-1.now w.in-Some-Big.field-0-2.now (rw w.in-Some-Big.field-0-is at w.in-Some-Big.ensures.is) w.explain-work-in-Some-Big.ensures)
+          (big_keeps words before out c.finish.result w.explain-work.result (rw (w.out-is, w.work-is) at c.finish.ensures) w.in-Some-Big.field-0-0 w.in-Some-Big.field-0-1.now w.in-Some-Big.field-0-2.now (rw w.in-Some-Big.field-0-is at w.in-Some-Big.ensures.is) w.explain-work.ensures)
       | in-None w ↦
           rw w.files-is
           (none_keeps words before out c.finish.result w.explain-work-in-None.result (rw (w.out-is, w.work-is) at c.finish.ensures) w.in-None.ensures.is w.explain-work-in-None.ensures)
