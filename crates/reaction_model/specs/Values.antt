@@ -16,18 +16,19 @@ use Rattle.efrp_meaning.specs.Values.{modulus, holds, number_of, unary_value, bi
 use Rattle.efrp_meaning.specs.Meaning.{Rule, Always, Sampled, Tabled, Now, Later, Stays}
 use Rattle.efrp_types.specs.Numbers.{decl_number}
 
+-- The type of a value.
 abbrev pub type_of_value : Value → Ty
 type_of_value (value.Bool b) = ty.Bool
 type_of_value (value.U8 n) = ty.U8
 type_of_value (value.U16 n) = ty.U16
 
--- The value of this type with this number, or with what is left of the number by the type's modulus.
+-- The value of this type with this number. Of a number past the type's range u8 and u16 have the low bits, and bool is false.
 abbrev pub value_in : Ty → ℕ → Value
 value_in ty.Bool n = value.Bool (holds n)
 value_in ty.U8 n = value.U8 (n % 256)
 value_in ty.U16 n = value.U16 (n % 65536)
 
--- What stands where there is no value.
+-- What stands where there is no value, and the value where there is one.
 abbrev pub nothing : Value
 nothing = value.Bool false
 

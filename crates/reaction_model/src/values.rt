@@ -39,7 +39,8 @@ pub fn number(value: Value) -> u32
     }
 }
 
-/// The value of this type with this number. What is above the type's range is cut off.
+/// The value of this type with this number. Of a number past the type's range `u8` and `u16` have the low bits, and
+/// `bool` is false.
 pub fn of_type(ty: Ty, n: u32) -> Value
     ensures { result ≡ value_in ty n }
 {
@@ -61,6 +62,7 @@ pub fn unary(op: UnOp, a: Value) -> Value
     }
 }
 
+/// The type of `a op b`, by that of `a`.
 fn result_type(op: BinOp, operand: Ty) -> Ty
     ensures { result ≡ binary_result op operand }
 {
