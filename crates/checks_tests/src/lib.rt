@@ -8,4 +8,6 @@ mod event_tests;
 #[cfg(test)]
 mod name_tests;
 #[cfg(test)]
+mod react_tests;
+#[cfg(test)]
 mod type_tests;
