@@ -1,0 +1,3 @@
+mod CodeFacts
+mod NameFacts
+mod PlaceFacts

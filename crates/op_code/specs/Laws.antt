@@ -1,0 +1,31 @@
+-- What an operation and its cells have to be, and what the laws of `laws.rt` promise.
+use Rattle.std.specs.Prelude.{ℕ, ◌<◌, List}
+use Rattle.std.specs.List.{AllByRecursion}
+use Rattle.byte_ops.specs.declared.operations.Op.{Op}
+use Rattle.byte_ops.specs.Cells.{AreIn, AreNot, Differ}
+use Rattle.byte_ops.specs.Kinds.{IsOp}
+use Rattle.byte_ops.specs.Meaning.{read_by, written_by}
+use Rattle.bank_alloc.specs.declared.needs.Needs.{Needs}
+use Rattle.code_steps.specs.declared.banks.Bank.{Bank}
+use Rattle.code_steps.specs.declared.banks.Bank.TheVariants.{Unknown}
+use Rattle.code_items.specs.declared.items.Item.{Item}
+use Rattle.op_templates.specs.Laws.{HasByte}
+use Rattle.op_code.specs.declared.named.Named.{Named}
+use Rattle.op_code.specs.Operations.{DoesOp, cells_of_op}
+
+-- An operation of its kind on some of so many cells: its constant is a byte; what it writes is none of what it reads, and differs.
+pub record IsOpOn (count : ℕ) (op : Op) : Type 0 where
+  pub kind : IsOp op
+  pub byte : HasByte op
+  pub placed : AreIn count (cells_of_op op)
+  pub apart : AllByRecursion (λ cell. AreNot cell (read_by op)) (written_by op)
+  pub differ : Differ (written_by op)
+
+-- The cells of names are among so many.
+abbrev pub ArePlaced : ℕ → Named → Type 0
+ArePlaced count named =
+    (named.to < count) × (named.to_high < count) × (named.a < count) × (named.a_high < count) × (named.b < count) × (named.b_high < count) × (named.c < count)
+
+-- Items do an operation, begun in a bank that isn't known.
+abbrev pub DoesAnywhere : Op → Needs → List Item → Type 0
+DoesAnywhere op need items = (to : Bank) × DoesOp op need Unknown to items
