@@ -14,7 +14,6 @@ ghost use Rattle.op_code.specs.Named.{addresses_of, named_by as named_cells};
 ghost use Rattle.op_code.specs.Operations.{DoesOp};
 ghost use Rattle.op_code.specs.Templates.{acts_of};
 ghost use Rattle.op_templates.specs.Laws.{HasByte};
-ghost use Rattle.op_templates.specs.Templates.{has_template};
 
 use crate::named::{Named, named_by};
 use bank_alloc::Places;
@@ -25,6 +24,7 @@ use code_steps::Bank;
 use frp_tree::List;
 use op_templates::template;
 use pic_isa::Instr;
+use product_templates::product_template;
 use std::alloc::{AllocError, Global};
 
 /// Code as items, and what is known of the bank behind it.
@@ -62,11 +62,13 @@ fn addresses(places: &Places, named: &Named) -> code_acts::Places
 
 // The acts of an operation.
 fn acts(alloc: Global, op: &Op) -> Result<Vec<Act>, AllocError>
-    requires kind { IsOp op.now }
-    requires no_product { IsTrue (has_template op.now) }
+    requires { IsOp op.now }
     ensures { IfOk result (λ acts. acts.items ≡ acts_of op.now) }
 {
-    template(alloc, op)
+    match *op {
+        Op::Product { f, wide, .. } => product_template(alloc, f, wide),
+        _ => template(alloc, op),
+    }
 }
 
 // Instructions as items of code.
@@ -87,7 +89,6 @@ fn items(alloc: Global, instrs: &[Instr]) -> Result<Code, AllocError>
 pub fn code_in(alloc: Global, op: &Op, places: &Places, bank: Bank) -> Result<Coded, AllocError>
     requires kind { IsOp op.now }
     requires byte { HasByte op.now }
-    requires no_product { IsTrue (has_template op.now) }
     requires read_in { AreIn (bytes_of places.now.need) (read_by op.now) }
     requires written_in { AreIn (bytes_of places.now.need) (written_by op.now) }
     requires apart { AllByRecursion (λ cell. AreNot cell (read_by op.now)) (written_by op.now) }
@@ -109,7 +110,6 @@ pub fn code_in(alloc: Global, op: &Op, places: &Places, bank: Bank) -> Result<Co
 pub fn code_of(alloc: Global, op: &Op, places: &Places) -> Result<Code, AllocError>
     requires kind { IsOp op.now }
     requires byte { HasByte op.now }
-    requires no_product { IsTrue (has_template op.now) }
     requires read_in { AreIn (bytes_of places.now.need) (read_by op.now) }
     requires written_in { AreIn (bytes_of places.now.need) (written_by op.now) }
     requires apart { AllByRecursion (λ cell. AreNot cell (read_by op.now)) (written_by op.now) }

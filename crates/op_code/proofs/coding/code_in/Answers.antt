@@ -1,7 +1,7 @@
 use Rattle.bank_alloc.specs.Needs.{bytes_of}
 use Rattle.op_code.specs.Laws.{IsOpOn}
 use Rattle.op_code.specs.Templates.{acts_of}
-use Rattle.op_code.proofs.CodeFacts.{code_does, right_template}
+use Rattle.op_code.proofs.CodeFacts.{code_does, right_acts}
 use Rattle.op_code.proofs.PlaceFacts.{cells-placed, names-placed}
 use Rattle.op_code.proofs.coding.code_in.Goals as goal
 
@@ -20,7 +20,7 @@ returns c =
       apart = c.requires.apart;
       differ = c.requires.differ;
     } in
-    let does = code_does need op (acts_of op) c.args.places.now.fits on (right_template op c.requires.kind c.requires.byte c.requires.no_product) c.args.bank in
+    let does = code_does need op (acts_of op) c.args.places.now.fits on (right_acts op c.requires.kind c.requires.byte) c.args.bank in
     rw (
       c.in_ok-items.ensures,
       c.as_slice.ensures,
