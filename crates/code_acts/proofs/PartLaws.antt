@@ -38,6 +38,20 @@ pub stand_of_items : (paged : Bool) (program marks : ℕ → ℕ) (p q : ℕ) (i
 stand_of_items paged program marks p q instrs stands =
     stand_of_lines program marks p q instrs (subst (λ ls. LinesPlaced program marks p ls q) (lines_of_instrs false paged instrs) stands)
 
+-- And instructions that stand, stand as items.
+lines_of_stand : (program marks : ℕ → ℕ) (p : ℕ) (instrs : List Instr) → p < 8192 → StandFrom program p instrs
+    → LinesPlaced program marks p (map Does instrs) ((p + length instrs) % 8192)
+lines_of_stand program marks p [] below stand = omega arith
+lines_of_stand program marks p (i ∷ more) below stand =
+    let there : (next p + length more) % 8192 ≡ (p + suc (length more)) % 8192 = omega arith in
+    (stand.0, subst (LinesPlaced program marks (next p) (map Does more)) there (lines_of_stand program marks (next p) more (omega arith) stand.1))
+
+pub items_of_stand : (program marks : ℕ → ℕ) (p : ℕ) (instrs : List Instr) → p < 8192 → StandFrom program p instrs
+    → Stands false program marks p (map Ins instrs) ((p + length instrs) % 8192)
+items_of_stand program marks p instrs below stand =
+    subst (λ ls. LinesPlaced program marks p ls ((p + length instrs) % 8192)) (sym (lines_of_instrs false false instrs))
+    (lines_of_stand program marks p instrs below stand)
+
 -- They stand in two parts.
 pub stand-append : (program : ℕ → ℕ) (p : ℕ) (xs ys : List Instr) → p < 8192 → StandFrom program p (xs ++ ys)
     → StandFrom program p xs × StandFrom program ((p + length xs) % 8192) ys

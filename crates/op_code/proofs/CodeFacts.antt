@@ -7,7 +7,7 @@ use Rattle.pic_regs.specs.Bytes.{Byte, num}
 use Rattle.pic_machine.specs.Chip.{Chip}
 use Rattle.pic_machine.specs.Results.{Done}
 use Rattle.byte_ops.specs.declared.operations.Op.{Op}
-use Rattle.byte_ops.specs.Meaning.{HasBools, Means, result_in, value_of, written_by}
+use Rattle.byte_ops.specs.Meaning.{HasBools, Means, read_by, result_in, value_of, written_by}
 use Rattle.byte_ops.specs.Weights.{number_type, weight_of}
 use Rattle.bank_alloc.specs.declared.needs.Needs.{Needs}
 use Rattle.bank_alloc.specs.Needs.{bytes_of}
@@ -28,7 +28,6 @@ use Rattle.code_acts.specs.Laws.{sets_bank}
 use Rattle.code_acts.specs.Standing.{AtStart, Like, PlacesOf, view}
 use Rattle.code_acts.proofs.CodeLaws.{instrs_fit, sets_none, skips_well, words_at_most}
 use Rattle.code_acts.proofs.EndLaws.{ends_anywhere, leaves}
-use Rattle.code_acts.proofs.PartLaws.{stand_of_items}
 use Rattle.code_acts.proofs.PlaceLaws.{keeps_pclath, misses_pclath}
 use Rattle.byte_ops.specs.Kinds.{IsOp, is_product}
 use Rattle.byte_ops.specs.declared.operations.Op.TheVariants.{Product}
@@ -43,9 +42,10 @@ use Rattle.op_templates.proofs.TemplateLaws.{has-template}
 use Rattle.op_templates.specs.Laws.{HasByte, uses, writes, values, values_after}
 use Rattle.op_code.specs.Laws.{IsOpOn}
 use Rattle.op_code.specs.Named.{cell_at, named_by}
-use Rattle.op_code.specs.Operations.{ComesTo, DoesOp, Encloses, IsOperandOrCell, StaysIn, bytes_after, bytes_in, is_one_of}
+use Rattle.op_code.specs.Operations.{ComesTo, DoesOp, Encloses, IsOperandOrCell, StaysIn, bytes_in, cells_of_op, is_one_of}
 use Rattle.op_code.specs.Templates.{acts_of, words_of}
-use Rattle.op_code.proofs.NameFacts.{all_of, at_name, map-same, bools-cells, not_one, or_right, place-cell, result-cells, value-cells, written_far}
+use Rattle.op_code.proofs.OrderLaws.{And, of_instrs}
+use Rattle.op_code.proofs.NameFacts.{all_of, at_each, bools-cells, not_one, or_right, place-cell, result-cells, value-cells, read_far, read_used, written_far}
 use Rattle.op_code.proofs.PlaceFacts.{acts_lie, cell_missed, may_write, named_placed, of_used, place_for, uses_picked, written_are_used}
 
 -- What instructions come to, as items come to it.
@@ -54,22 +54,14 @@ as_items : (R : Chip → Chip → Type 0) (may also : ℕ → Type 0) (bank to :
     → ((program : ℕ → ℕ) (c : Chip) → AtStart program bank instrs c
     → Comes program R (Own may c.pc (c.pc + length instrs)) (λ e. Ended ((c.pc + length instrs) % 8192) to e × Post c e) (length instrs) c)
     → ComesTo R also bank to (map Ins instrs) Post
-as_items R may also bank to instrs Post between missed more come paged program marks q c at =
-    let count : length (map Ins instrs) ≡ length instrs = length-map instrs Ins in
+as_items R may also bank to instrs Post between missed more come = of_instrs R also bank to instrs Post (λ program c at.
     let stop = c.pc + length instrs in
-    let start : AtStart program bank instrs c = record {
-      pc = at.pc;
-      room = subst (λ n. c.pc + n ≤ 8192) count at.room;
-      stand = stand_of_items paged program marks c.pc q instrs at.stand;
-      holds = at.holds;
-    } in
-    let kept = keeps_pclath program R may c.pc stop (λ e. Ended (stop % 8192) to e × Post c e) between missed (length instrs) c (come program c start) in
-    subst (λ n. Comes program R (Own also c.pc (c.pc + n)) (λ e. Ended ((c.pc + n) % 8192) to e × (e.regs.pclath ≡ c.regs.pclath) × Post c e) n c) (sym count)
-    (comes_wider program R R (Own may c.pc stop) (Own also c.pc stop) (λ e. (Ended (stop % 8192) to e × Post c e) × (e.regs.pclath ≡ c.regs.pclath))
-    (λ e. Ended (stop % 8192) to e × (e.regs.pclath ≡ c.regs.pclath) × Post c e)
+    let kept = keeps_pclath program R may c.pc stop (λ e. Ended (stop % 8192) to e × Post c e) between missed (length instrs) c (come program c at) in
+    comes_wider program R R (Own may c.pc stop) (Own also c.pc stop) (λ e. (Ended (stop % 8192) to e × Post c e) × (e.regs.pclath ≡ c.regs.pclath))
+    (λ e. Ended (stop % 8192) to e × And Post c e)
     (λ x y r. r)
     (own_wider may also c.pc stop c.pc stop more (omega arith) (omega arith))
-    (λ e p. (p.0.0, p.1, p.0.1))
+    (λ e p. (p.0.0, (p.1, p.0.1)))
     (length instrs)
     c
     kept)
@@ -80,9 +72,9 @@ pub record IsRight (op : Op) (acts : List Act) : Type 0 where
   pub is_sound : sound (uses op) (writes op) None false acts ≡ true
   pub within : (words None acts ≤ words_of op) × (words_of op ≤ weight_of op)
 
-picked_or_kept : (b : Bool) (x y : ℕ) → (b ≡ true → x ≡ y) → (if b then x else y) ≡ y
-picked_or_kept true x y h = h refl
-picked_or_kept false x y h = refl
+same_where : (b : Bool) (x y : ℕ) → (b ≡ true → x ≡ y) → (if b then x else 0) ≡ (if b then y else 0)
+same_where true x y h = h refl
+same_where false x y h = refl
 
 if_false : (b : Bool) (x y : ℕ) → b ≡ false → (if b then x else y) ≡ y
 if_false true x y h = absurd (cc)
@@ -119,7 +111,7 @@ module _ (need : Needs) (op : Op) (acts : List Act) (fits : bytes_of need ≤ 35
       (λ x y r. r) (λ d done step. step) (λ e p. (p, tt)) (length instrs) c
       (ends_anywhere (uses op) (writes op) (place_for need op) bank acts (named_placed need op fits on) right.is_sound program c at))
 
-  module _ (picked : ℕ → Bool) (enclosed : Encloses need op picked) where
+  module _ (picked : ℕ → Bool) (enclosed : Encloses need (cells_of_op op) picked) where
     abbrev Between : Chip → Chip → Type 0
     Between = Keeps (IsOperandOrCell need picked)
 
@@ -139,35 +131,42 @@ module _ (need : Needs) (op : Op) (acts : List Act) (fits : bytes_of need ≤ 35
         (step.plain address)
         (so_far cell is not)
 
-    -- What the machine leaves, the cells hold.
+    -- A name that the operation uses holds what its cell holds.
+    name_held : (c : Chip) (n : ℕ) → is_operand n ≡ false → uses op n ≡ true
+        → num (c.regs.plain (place_for need op n)) ≡ bytes_in need picked c (cell_at (named_by op) n)
+    name_held c n far used =
+        let cell = cell_at (named_by op) n in
+        ap (λ a. num (c.regs.plain a)) (place-cell need (named_by op) n far)
+        ∙ sym (if_true (picked cell) (num (c.regs.plain (address_of need cell))) 0 (of_used need op fits on (λ x. picked x ≡ true) enclosed.own n far used))
+
+    read_held : (c : Chip) (n : ℕ) → is_one_of (read_by (named op)) n ≡ true
+        → values (view (place_for need op) c) n ≡ bytes_in need picked c (cell_at (named_by op) n)
+    read_held c n one = name_held c n (at_each (λ m. is_operand m ≡ false) (read_by (named op)) n (read_far op) one) (read_used op n one)
+
     written_held : (c e : Chip) → Like (uses op) (run acts (view (place_for need op) c)) (view (place_for need op) e)
         → (n : ℕ) → is_one_of (written_by (named op)) n ≡ true
-        → values_after (view (place_for need op) c) (run acts (view (place_for need op) c)) n ≡ bytes_after need picked c e (cell_at (named_by op) n)
+        → values_after (view (place_for need op) c) (run acts (view (place_for need op) c)) n ≡ bytes_in need picked e (cell_at (named_by op) n)
     written_held c e like n one =
         let s = view (place_for need op) c in
-        let far : is_operand n ≡ false = at_name (λ m. is_operand m ≡ false) (λ m. m) (written_by (named op)) n (subst (AllByRecursion (λ m. is_operand m ≡ false)) (sym (map-same (written_by (named op)))) (written_far op)) one in
-        let written : writes op n ≡ true = or_right (is_operand n) (is_one_of (written_by (named op)) n) one in
-        let used : uses op n ≡ true = written_are_used need op fits on n written in
-        let cell = cell_at (named_by op) n in
-        let is : picked cell ≡ true = of_used need op fits on (λ x. picked x ≡ true) enclosed.own n far used in
-        if_false (is_operand n) (values s n) (values (run acts s) n) far
-        ∙ ap num (like.mem n used)
-        ∙ ap (λ a. num (e.regs.plain a)) (place-cell need (named_by op) n far)
-        ∙ sym (if_true (picked cell) (bytes_in need e cell) (bytes_in need c cell) is)
+        let far = at_each (λ m. is_operand m ≡ false) (written_by (named op)) n (written_far op) one in
+        let used : uses op n ≡ true = written_are_used need op fits on n (or_right (is_operand n) (is_one_of (written_by (named op)) n) one) in
+        if_false (is_operand n) (values s n) (values (run acts s) n) far ∙ ap num (like.mem n used) ∙ name_held e n far used
 
     does_mean : (c e : Chip) → Like (uses op) (run acts (view (place_for need op) c)) (view (place_for need op) e) → Kept c e
-        → Means op (bytes_in need c) (bytes_after need picked c e)
-    does_mean c e like kept = (
-      λ bools. sym (result-cells op (values_after (view (place_for need op) c) (run acts (view (place_for need op) c))) (bytes_after need picked c e)
-          (all_of _ (written_by (named op)) (written_held c e like)))
-          ∙ right.does (view (place_for need op) c) refl (bools-cells need c op bools)
-          ∙ value-cells need c op,
-      λ cell not. picked_or_kept (picked cell) (bytes_in need e cell) (bytes_in need c cell) (λ is. ap num (kept cell is (not_one (written_by op) cell not))),
-    )
+        → Means op (bytes_in need picked c) (bytes_in need picked e)
+    does_mean c e like kept =
+        let s = view (place_for need op) c in
+        let agree = all_of _ (read_by (named op)) (read_held c) in (
+          λ bools. sym (result-cells op (values_after s (run acts s)) (bytes_in need picked e) (all_of _ (written_by (named op)) (written_held c e like)))
+              ∙ right.does s refl (bools-cells (values s) (bytes_in need picked c) op agree bools)
+              ∙ value-cells (values s) (bytes_in need picked c) op agree,
+          λ cell not. same_where (picked cell) (num (e.regs.plain (address_of need cell))) (num (c.regs.plain (address_of need cell)))
+              (λ is. ap num (kept cell is (not_one (written_by op) cell not))),
+        )
 
-    does_leave : ComesTo Between May bank to (map Ins instrs) (λ c e. Means op (bytes_in need c) (bytes_after need picked c e))
+    does_leave : ComesTo Between May bank to (map Ins instrs) (λ c e. Means op (bytes_in need picked c) (bytes_in need picked e))
     does_leave =
-        as_items Between (PlacesOf (writes op) (place_for need op)) May bank to instrs (λ c e. Means op (bytes_in need c) (bytes_after need picked c e))
+        as_items Between (PlacesOf (writes op) (place_for need op)) May bank to instrs (λ c e. Means op (bytes_in need picked c) (bytes_in need picked e))
         (λ c d r. r.pclath) missed (may_write need op fits on)
         (λ program c at.
         let stop = c.pc + length instrs in
@@ -178,10 +177,10 @@ module _ (need : Needs) (op : Op) (acts : List Act) (fits : bytes_of need ≤ 35
         (λ x y r. keeps_fewer (IsOperandOrCell need picked) (PlacesOf (uses op) (place_for need op)) x y (uses_picked need op fits on picked enclosed.own) r)
         (λ d done step. step) (λ e p. p) (length instrs) c come in
         let kept = comes_keeping program Between G End (Kept c) (kept_between c) (kept_by_step c c.pc stop) (length instrs) c (λ cell is not. refl) among in
-        comes_wider program Between Between G G (λ e. End e × Kept c e) (λ e. Ended (stop % 8192) to e × Means op (bytes_in need c) (bytes_after need picked c e))
+        comes_wider program Between Between G G (λ e. End e × Kept c e) (λ e. Ended (stop % 8192) to e × Means op (bytes_in need picked c) (bytes_in need picked e))
         (λ x y r. r) (λ d done step. step) (λ e p. (p.0.0, does_mean c e p.0.1 p.1)) (length instrs) c kept)
 
-  does_stay : StaysIn op need bank to instrs
+  does_stay : StaysIn (cells_of_op op) need bank to instrs
   does_stay k known lie =
       let here = sets_none (place_for need op) k acts (acts_lie need op fits on k lie None false acts right.is_sound) in (
         subst (λ b. AllByRecursion (λ i. sets_bank i ≡ false) (code (place_for need op) b acts)) (sym known) here.0,

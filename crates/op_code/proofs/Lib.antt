@@ -1,3 +1,4 @@
 mod CodeFacts
 mod NameFacts
+pub mod OrderLaws
 mod PlaceFacts

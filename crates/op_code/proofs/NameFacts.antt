@@ -1,6 +1,7 @@
 -- Lists of names and of the cells that they stand for.
-use Rattle.std.proofs.Common.{◌≡◌, ◌≢◌, ℕ, ◌+◌, ◌⊎◌, Bool, true, false, ◌==◌, ◌||◌, if◌then◌else◌, List, [], ◌∷◌, ◌++◌, map, ap, ◌∙◌, sym, refl, subst, inl, inr}
+use Rattle.std.proofs.Common.{◌≡◌, ◌≢◌, ℕ, ◌+◌, ◌*◌, ◌⊎◌, Bool, true, false, ◌==◌, ◌||◌, if◌then◌else◌, List, [], ◌∷◌, ◌++◌, map, ap, ◌∙◌, sym, refl, subst, inl, inr, arith}
 use Rattle.std.proofs.lemmas.Bool.{ne_eqb, eq-eqb, eqb-true}
+use Rattle.std.proofs.lemmas.List.{map-append}
 use Rattle.std.specs.List.{AllByRecursion, list_any}
 use Rattle.byte_ops.specs.declared.operations.Op.{Op}
 use Rattle.byte_ops.specs.declared.operations.Op.TheVariants.{Set, Copy, Com, Not, Bits, Sum, Compare, Logic, Choose, Shift, Product}
@@ -8,15 +9,15 @@ use Rattle.byte_ops.specs.Cells.{AreNot, Differ}
 use Rattle.byte_ops.specs.Meaning.{HasBools, read_by, result_in, value_of, written_by}
 use Rattle.bank_alloc.specs.declared.needs.Needs.{Needs}
 use Rattle.bank_alloc.specs.Addresses.{address_of}
-use Rattle.pic_machine.specs.Chip.{Chip}
+use Rattle.frp_tree.specs.declared.syntax.UnOp.TheVariants as unary
+use Rattle.efrp_meaning.specs.Values.{binary_value, if_value, shift_value, unary_value}
 use Rattle.code_acts.specs.declared.acts.Places.{Places}
 use Rattle.code_acts.specs.Codes.{is_operand, place_of}
-use Rattle.code_acts.specs.Standing.{view}
 use Rattle.op_templates.specs.Templates.{named}
-use Rattle.op_templates.specs.Laws.{values}
+use Rattle.op_templates.specs.Laws.{uses}
 use Rattle.op_code.specs.declared.named.Named.{Named}
 use Rattle.op_code.specs.Named.{addresses_of, cell_at, named_by}
-use Rattle.op_code.specs.Operations.{bytes_in, cells_of_op, is_one_of}
+use Rattle.op_code.specs.Operations.{cells_of_op, is_one_of}
 
 pub or_cases : (a b : Bool) → (a || b) ≡ true → (a ≡ true) ⊎ (b ≡ true)
 or_cases true b h = inl refl
@@ -34,17 +35,16 @@ any-append p (x ∷ xs) ys = ap (λ b. p x || b) (any-append p xs ys) ∙ or_joi
     or_joined true b c = refl
     or_joined false b c = refl
 
-pub all-joined : (P : ℕ → Type 0) (xs ys : List ℕ) → AllByRecursion P xs → AllByRecursion P ys → AllByRecursion P (xs ++ ys)
+pub or_left : (a b : Bool) → a ≡ true → (a || b) ≡ true
+or_left a b h = ap (λ c. c || b) h
+
+pub all-joined : {X : Type 0} (P : X → Type 0) (xs ys : List X) → AllByRecursion P xs → AllByRecursion P ys → AllByRecursion P (xs ++ ys)
 all-joined P [] ys first second = second
 all-joined P (x ∷ xs) ys first second = (first.0, all-joined P xs ys first.1 second)
 
-map-parts : (f : ℕ → ℕ) (xs ys : List ℕ) → map f (xs ++ ys) ≡ map f xs ++ map f ys
-map-parts f [] ys = refl
-map-parts f (x ∷ xs) ys = ap (λ l. f x ∷ l) (map-parts f xs ys)
-
-pub map-same : (xs : List ℕ) → map (λ x. x) xs ≡ xs
-map-same [] = refl
-map-same (x ∷ xs) = ap (λ l. x ∷ l) (map-same xs)
+pub all-parts : (P : ℕ → Type 0) (xs ys : List ℕ) → AllByRecursion P (xs ++ ys) → AllByRecursion P xs × AllByRecursion P ys
+all-parts P [] ys all = (tt, all)
+all-parts P (x ∷ xs) ys all = let rest = all-parts P xs ys all.1 in ((all.0, rest.0), rest.1)
 
 -- What holds of all cells of names holds of the cell of each.
 pub at_name : (P : ℕ → Type 0) (f : ℕ → ℕ) (xs : List ℕ) (n : ℕ) → AllByRecursion P (map f xs) → is_one_of xs n ≡ true → P (f n)
@@ -54,6 +54,11 @@ at_name P f (x ∷ xs) n all h =
       | inl e ↦ subst (λ m. P (f m)) (eqb-true x n e) all.0
       | inr e ↦ at_name P f xs n all.1 e
     ]
+
+pub at_each : (P : ℕ → Type 0) (xs : List ℕ) (n : ℕ) → AllByRecursion P xs → is_one_of xs n ≡ true → P n
+at_each P [] n all h = absurd (cc)
+at_each P (x ∷ xs) n all h =
+    elim (or_cases (x == n) (is_one_of xs n) h) as (λ e. P n) [ inl e ↦ subst P (eqb-true x n e) all.0 | inr e ↦ at_each P xs n all.1 e ]
 
 pub one_of-map : (f : ℕ → ℕ) (xs : List ℕ) (n : ℕ) → is_one_of xs n ≡ true → is_one_of (map f xs) (f n) ≡ true
 one_of-map f [] n h = absurd (cc)
@@ -154,7 +159,7 @@ pub all-cells : (op : Op) → cells_of_op op ≡ map (cell_at (named_by op)) (ce
 all-cells op =
     let f = cell_at (named_by op) in
     ap (λ xs. xs ++ written_by op) (read-cells op) ∙ ap (λ ys. map f (read_by (named op)) ++ ys) (written-cells op)
-    ∙ sym (map-parts f (read_by (named op)) (written_by (named op)))
+    ∙ sym (map-append f (read_by (named op)) (written_by (named op)))
 
 -- Names that an operation writes are no operand bytes.
 pub written_far : (op : Op) → AllByRecursion (λ n. is_operand n ≡ false) (written_by (named op))
@@ -173,6 +178,12 @@ written_far (Shift side true n to a) = (refl, (refl, tt))
 written_far (Shift side false n to a) = (refl, tt)
 written_far (Product f true to a b) = (refl, (refl, tt))
 written_far (Product f false to a b) = (refl, tt)
+
+both : (f : ℕ → ℕ → ℕ) {a b c d : ℕ} → a ≡ b → c ≡ d → f a c ≡ f b d
+both f p q = λ i. f (p i) (q i)
+
+pair : {a b c d : ℕ} → a ≡ b → c ≡ d → a + 256 * c ≡ b + 256 * d
+pair p q = λ i. p i + 256 * q i
 
 -- Its result depends on what these names hold alone.
 pub result-cells : (op : Op) (named_bytes cells : ℕ → ℕ) → AllByRecursion (λ n. named_bytes n ≡ cells (cell_at (named_by op) n)) (written_by (named op))
@@ -193,28 +204,58 @@ result-cells (Shift side false n to a) x y all = all.0
 result-cells (Product f true to a b) x y all = let low = all.0 in let high = all.1.0 in cc
 result-cells (Product f false to a b) x y all = all.0
 
--- Its bools and its value are those of its names.
-module _ (need : Needs) (c : Chip) where
-  pub bools-cells : (op : Op) → HasBools op (bytes_in need c) → HasBools (named op) (values (view (place_of (addresses_of need (named_by op))) c))
-  bools-cells (Not to a) h = h
-  bools-cells (Logic f to a b) h = h
-  bools-cells (Choose wide to x a b) h = h
-  bools-cells _ h = tt
+-- Its bools and its value are those of its names, where these hold what its cells hold.
+module _ (x y : ℕ → ℕ) where
+  -- The names that an operation reads hold what its cells hold.
+  abbrev pub Agree : Op → Type 0
+  Agree op = AllByRecursion (λ n. x n ≡ y (cell_at (named_by op) n)) (read_by (named op))
 
-  pub value-cells : (op : Op) → value_of (named op) (values (view (place_of (addresses_of need (named_by op))) c)) ≡ value_of op (bytes_in need c)
-  value-cells (Set to k) = refl
-  value-cells (Copy to a) = refl
-  value-cells (Com to a) = refl
-  value-cells (Not to a) = refl
-  value-cells (Bits f to a b) = refl
-  value-cells (Sum f true to a b) = refl
-  value-cells (Sum f false to a b) = refl
-  value-cells (Compare f true to a b) = refl
-  value-cells (Compare f false to a b) = refl
-  value-cells (Logic f to a b) = refl
-  value-cells (Choose true to x a b) = refl
-  value-cells (Choose false to x a b) = refl
-  value-cells (Shift side true n to a) = refl
-  value-cells (Shift side false n to a) = refl
-  value-cells (Product f true to a b) = refl
-  value-cells (Product f false to a b) = refl
+  pub bools-cells : (op : Op) → Agree op → HasBools op y → HasBools (named op) x
+  bools-cells (Not to a) all h = let e = all.0 in omega (arith, e, h)
+  bools-cells (Logic f to a b) all h = let e = all.0 in let d = all.1.0 in let i = h.0 in let j = h.1 in (omega (arith, e, i), omega (arith, d, j))
+  bools-cells (Choose true to c a b) all h = let e = all.0 in omega (arith, e, h)
+  bools-cells (Choose false to c a b) all h = let e = all.0 in omega (arith, e, h)
+  bools-cells _ all h = tt
+
+  pub value-cells : (op : Op) → Agree op → value_of (named op) x ≡ value_of op y
+  value-cells (Set to k) all = refl
+  value-cells (Copy to a) all = all.0
+  value-cells (Com to a) all = ap (unary_value unary.Com 256) all.0
+  value-cells (Not to a) all = ap (unary_value unary.Not 2) all.0
+  value-cells (Bits f to a b) all = both (binary_value f 256) all.0 all.1.0
+  value-cells (Sum f true to a b) all = both (binary_value f 65536) (pair all.0 all.1.0) (pair all.1.1.0 all.1.1.1.0)
+  value-cells (Sum f false to a b) all = both (binary_value f 256) all.0 all.1.0
+  value-cells (Compare f true to a b) all = both (binary_value f 65536) (pair all.0 all.1.0) (pair all.1.1.0 all.1.1.1.0)
+  value-cells (Compare f false to a b) all = both (binary_value f 256) all.0 all.1.0
+  value-cells (Logic f to a b) all = both (binary_value f 2) all.0 all.1.0
+  value-cells (Choose true to c a b) all =
+      ap (λ n. if_value n (x 14 + 256 * x 15) (x 16 + 256 * x 17)) all.0 ∙ both (if_value (y c)) (pair all.1.0 all.1.1.0) (pair all.1.1.1.0 all.1.1.1.1.0)
+  value-cells (Choose false to c a b) all = ap (λ n. if_value n (x 14) (x 16)) all.0 ∙ both (if_value (y c)) all.1.0 all.1.1.0
+  value-cells (Shift side true n to a) all = ap (shift_value side n 65536) (pair all.0 all.1.0)
+  value-cells (Shift side false n to a) all = ap (shift_value side n 256) all.0
+  value-cells (Product f true to a b) all = both (binary_value f 65536) (pair all.0 all.1.0) (pair all.1.1.0 all.1.1.1.0)
+  value-cells (Product f false to a b) all = both (binary_value f 256) all.0 all.1.0
+
+-- Names that an operation reads are no operand bytes.
+pub read_far : (op : Op) → AllByRecursion (λ n. is_operand n ≡ false) (read_by (named op))
+read_far (Set to k) = tt
+read_far (Copy to a) = (refl, tt)
+read_far (Com to a) = (refl, tt)
+read_far (Not to a) = (refl, tt)
+read_far (Bits f to a b) = (refl, (refl, tt))
+read_far (Sum f true to a b) = (refl, (refl, (refl, (refl, tt))))
+read_far (Sum f false to a b) = (refl, (refl, tt))
+read_far (Compare f true to a b) = (refl, (refl, (refl, (refl, tt))))
+read_far (Compare f false to a b) = (refl, (refl, tt))
+read_far (Logic f to a b) = (refl, (refl, tt))
+read_far (Choose true to c a b) = (refl, (refl, (refl, (refl, (refl, tt)))))
+read_far (Choose false to c a b) = (refl, (refl, (refl, tt)))
+read_far (Shift side true n to a) = (refl, (refl, tt))
+read_far (Shift side false n to a) = (refl, tt)
+read_far (Product f true to a b) = (refl, (refl, (refl, (refl, tt))))
+read_far (Product f false to a b) = (refl, (refl, tt))
+
+pub read_used : (op : Op) (n : ℕ) → is_one_of (read_by (named op)) n ≡ true → uses op n ≡ true
+read_used op n one =
+    or_right (is_operand n) (is_one_of (cells_of_op (named op)) n)
+    (any-append (λ m. m == n) (read_by (named op)) (written_by (named op)) ∙ ap (λ b. b || is_one_of (written_by (named op)) n) one)

@@ -21,7 +21,7 @@ use Rattle.op_templates.specs.Templates.{named}
 use Rattle.op_templates.specs.Laws.{uses, writes}
 use Rattle.op_code.specs.Laws.{ArePlaced, IsOpOn}
 use Rattle.op_code.specs.Named.{addresses_of, cell_at, named_by}
-use Rattle.op_code.specs.Operations.{IsOperandByte, IsOperandOrCell, LiesIn, cells_of_op, is_one_of}
+use Rattle.op_code.specs.Operations.{IsOperandByte, IsOperandOrCell, LieIn as LiesIn, cells_of_op, is_one_of}
 use Rattle.op_code.proofs.NameFacts.{all-joined, all-cells, any-append, at_name, one_of-map, or_cases, or_right, place-cell, read-cells, same_name, written-cells}
 
 pub general-below : (address : ℕ) → is_general address ≡ true → address < 512
@@ -143,7 +143,7 @@ module _ (need : Needs) (op : Op) (fits : bytes_of need ≤ 352) (on : IsOpOn (b
       cc
 
   -- Where all cells lie in a bank, each name that needs one lies in it.
-  name_lies : (k : ℕ) → LiesIn need k op → (name : Option ℕ) → names_allowed (uses op) name ≡ true → (j : ℕ) → far (place_for need op) name ≡ Some j → j ≡ k
+  name_lies : (k : ℕ) → LiesIn need k (cells_of_op op) → (name : Option ℕ) → names_allowed (uses op) name ≡ true → (j : ℕ) → far (place_for need op) name ≡ Some j → j ≡ k
   name_lies k lie None used j h = absurd (cc)
   name_lies k lie (Some n) used j h = by_operand (is_operand n) refl h
     where
@@ -153,7 +153,7 @@ module _ (need : Needs) (op : Op) (fits : bytes_of need ≤ 352) (on : IsOpOn (b
           let here : place_for need op n / 128 ≡ k = ap (λ a. a / 128) (place_is n is) ∙ of_used (λ cell. address_of need cell / 128 ≡ k) lie n is used in
           cc
 
-  pub acts_lie : (k : ℕ) → LiesIn need k op → (last : Option ℕ) (behind : Bool) (acts : List Act)
+  pub acts_lie : (k : ℕ) → LiesIn need k (cells_of_op op) → (last : Option ℕ) (behind : Bool) (acts : List Act)
       → sound (uses op) (writes op) last behind acts ≡ true → LieIn (place_for need op) k acts
   acts_lie k lie last behind [] h = tt
   acts_lie k lie last behind (a ∷ more) h =

@@ -1,5 +1,5 @@
 -- What an operation and its cells have to be, and what the laws of `laws.rt` promise.
-use Rattle.std.specs.Prelude.{ℕ, ◌<◌, List}
+use Rattle.std.specs.Prelude.{ℕ, ◌<◌, List, [], ◌∷◌, ◌++◌}
 use Rattle.std.specs.List.{AllByRecursion}
 use Rattle.byte_ops.specs.declared.operations.Op.{Op}
 use Rattle.byte_ops.specs.Cells.{AreIn, AreNot, Differ}
@@ -11,7 +11,7 @@ use Rattle.code_steps.specs.declared.banks.Bank.TheVariants.{Unknown}
 use Rattle.code_items.specs.declared.items.Item.{Item}
 use Rattle.op_templates.specs.Laws.{HasByte}
 use Rattle.op_code.specs.declared.named.Named.{Named}
-use Rattle.op_code.specs.Operations.{DoesOp, cells_of_op}
+use Rattle.op_code.specs.Operations.{DoesInOrder, DoesOp, cells_of_op}
 
 -- An operation of its kind on some of so many cells: its constant is a byte; what it writes is none of what it reads, and differs.
 pub record IsOpOn (count : ℕ) (op : Op) : Type 0 where
@@ -29,3 +29,14 @@ ArePlaced count named =
 -- Items do an operation, begun in a bank that isn't known.
 abbrev pub DoesAnywhere : Op → Needs → List Item → Type 0
 DoesAnywhere op need items = (to : Bank) × DoesOp op need Unknown to items
+
+-- No items do no operations. Items that do an operation, before others that go on in its bank, do it and what they do.
+abbrev pub NoneDoes : Needs → Bank → Type 0
+NoneDoes need bank = DoesInOrder [] need bank bank []
+
+abbrev pub OneMoreDoes : Op → List Op → Needs → (bank mid to : Bank) → (xs ys : List Item) → Type 0
+OneMoreDoes op ops need bank mid to xs ys = DoesOp op need bank mid xs → DoesInOrder ops need mid to ys → DoesInOrder (op ∷ ops) need bank to (xs ++ ys)
+
+-- Items that do some operations, before others that go on in their bank, do them and what those do.
+abbrev pub PartsDo : (ops more : List Op) → Needs → (bank mid to : Bank) → (xs ys : List Item) → Type 0
+PartsDo ops more need bank mid to xs ys = DoesInOrder ops need bank mid xs → DoesInOrder more need mid to ys → DoesInOrder (ops ++ more) need bank to (xs ++ ys)

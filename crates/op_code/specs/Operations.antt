@@ -1,6 +1,6 @@
 -- What code does an operation: where it ends, what it may write, what it leaves, and how long it is.
-use Rattle.std.specs.Prelude.{◌≡◌, ℕ, ◌+◌, ◌/◌, ◌%◌, ◌<◌, ◌≤◌, ◌==◌, ◌⊎◌, Bool, true, false, if◌then◌else◌, Some, List, ◌++◌, map, length}
-use Rattle.std.specs.List.{AllByRecursion, list_any}
+use Rattle.std.specs.Prelude.{◌≡◌, ℕ, ◌+◌, ◌/◌, ◌%◌, ◌<◌, ◌≤◌, ◌==◌, ◌⊎◌, Bool, true, false, if◌then◌else◌, Some, List, [], ◌∷◌, ◌++◌, map, length}
+use Rattle.std.specs.List.{AllByRecursion, flat_map, list_any, sum_by}
 use Rattle.pic_isa.specs.declared.instructions.Instr.{Instr}
 use Rattle.pic_isa.specs.Instructions.{FieldsFit}
 use Rattle.pic_regs.specs.Bytes.{num}
@@ -62,34 +62,23 @@ ComesTo R may bank to items Post =
     (λ e. Ended ((c.pc + length items) % 8192) to e × (e.regs.pclath ≡ c.regs.pclath) × Post c e)
     (length items) c
 
--- What each cell holds, by its address; and the same at the end for cells that a test picks, the others as they were.
-abbrev pub bytes_in : Needs → Chip → ℕ → ℕ
-bytes_in need c cell = num (c.regs.plain (address_of need cell))
+-- What each cell that a test picks holds, by its address; 0 in place of the others.
+abbrev pub bytes_in : Needs → (picked : ℕ → Bool) → Chip → ℕ → ℕ
+bytes_in need picked c cell = if picked cell then num (c.regs.plain (address_of need cell)) else 0
 
-abbrev pub bytes_after : Needs → (picked : ℕ → Bool) → (before after : Chip) → ℕ → ℕ
-bytes_after need picked before after cell = if picked cell then bytes_in need after cell else bytes_in need before cell
-
--- Placed cells with those of an operation.
-pub record Encloses (need : Needs) (op : Op) (picked : ℕ → Bool) : Type 0 where
+-- The cells that a test picks are placed, and these are among them.
+pub record Encloses (need : Needs) (cells : List ℕ) (picked : ℕ → Bool) : Type 0 where
   pub placed : (cell : ℕ) → picked cell ≡ true → cell < bytes_of need
-  pub own : AllByRecursion (λ cell. picked cell ≡ true) (cells_of_op op)
+  pub own : AllByRecursion (λ cell. picked cell ≡ true) cells
 
--- Where nothing else changes these cells, W, STATUS and operand bytes, the code leaves in the cells what the operation means: each
--- that it doesn't write is kept.
-abbrev pub LeavesMeaning : Op → Needs → (picked : ℕ → Bool) → (bank to : Bank) → List Item → Type 0
-LeavesMeaning op need picked bank to items =
-    Encloses need op picked
-    → ComesTo (Keeps (IsOperandOrCell need picked)) (IsOperandOrCell need (is_one_of (written_by op))) bank to items
-    (λ c e. Means op (bytes_in need c) (bytes_after need picked c e))
+-- All of these cells lie in a bank.
+abbrev pub LieIn : Needs → ℕ → List ℕ → Type 0
+LieIn need k cells = AllByRecursion (λ cell. address_of need cell / 128 ≡ k) cells
 
--- All cells of an operation lie in a bank.
-abbrev pub LiesIn : Needs → ℕ → Op → Type 0
-LiesIn need k op = AllByRecursion (λ cell. address_of need cell / 128 ≡ k) (cells_of_op op)
-
--- The items have no bank setting, and the bank stays.
-abbrev pub StaysIn : Op → Needs → (bank to : Bank) → List Instr → Type 0
-StaysIn op need bank to instrs =
-    (k : ℕ) → bank ≡ Known k → LiesIn need k op → AllByRecursion (λ i. sets_bank i ≡ false) instrs × (to ≡ Known k)
+-- Begun in the bank in which all of these cells lie, the instructions have no bank setting, and the bank stays.
+abbrev pub StaysIn : List ℕ → Needs → (bank to : Bank) → List Instr → Type 0
+StaysIn cells need bank to instrs =
+    (k : ℕ) → bank ≡ Known k → LieIn need k cells → AllByRecursion (λ i. sets_bank i ≡ false) instrs × (to ≡ Known k)
 
 -- Items are these instructions, whose fields are in range; none names PCLATH, the last is no skip instruction, and no bank setting
 -- stands directly behind one.
@@ -99,13 +88,29 @@ pub record AreInstrs (items : List Item) (instrs : List Instr) : Type 0 where
   pub last : ends_skipping false items ≡ false
   pub settings : SkipsNoSetting false instrs
 
--- Items, begun in this bank and ended in that one, do an operation on placed cells: anywhere they come to their end, under whole
--- runs of others too; they leave what it means; they are at most as many as its template takes, which is within its weight; and
--- where all its cells lie in the known bank they set none.
-pub record DoesOp (op : Op) (need : Needs) (bank to : Bank) (items : List Item) : Type 0 where
-  pub ends : ComesTo Others (IsOperandOrCell need (is_one_of (written_by op))) bank to items (λ c e. Unit)
-  pub leaves : (picked : ℕ → Bool) → LeavesMeaning op need picked bank to items
-  pub words : (length items ≤ words_of op) × (words_of op ≤ weight_of op)
+-- Items, begun in this bank and ended in that one, do with placed cells what is meant. Anywhere they come to their end, under whole
+-- runs of others too, and they write only W, STATUS, operand bytes and the cells `written`. Where nothing else changes W, STATUS,
+-- operand bytes and placed cells that a test picks, `cells` among them, they leave in these what is meant. They are at most so
+-- many, which is within a weight; and where all of `cells` lie in the known bank they set none.
+pub record Does (cells written : List ℕ) (Meant : (before after : ℕ → ℕ) → Type 0) (most weight : ℕ) (need : Needs) (bank to : Bank) (items : List Item) : Type 0 where
+  pub ends : ComesTo Others (IsOperandOrCell need (is_one_of written)) bank to items (λ c e. Unit)
+  pub leaves : (picked : ℕ → Bool) → Encloses need cells picked
+      → ComesTo (Keeps (IsOperandOrCell need picked)) (IsOperandOrCell need (is_one_of written)) bank to items
+      (λ c e. Meant (bytes_in need picked c) (bytes_in need picked e))
+  pub words : (length items ≤ most) × (most ≤ weight)
   pub instrs : List Instr
   pub are : AreInstrs items instrs
-  pub stays : StaysIn op need bank to instrs
+  pub stays : StaysIn cells need bank to instrs
+
+-- Items do an operation. Since it keeps what it doesn't write, so do they.
+abbrev pub DoesOp : Op → Needs → (bank to : Bank) → List Item → Type 0
+DoesOp op = Does (cells_of_op op) (written_by op) (Means op) (words_of op) (weight_of op)
+
+-- What operations mean one after the other.
+abbrev pub MeansInOrder : List Op → (before after : ℕ → ℕ) → Type 0
+MeansInOrder [] before after = (cell : ℕ) → after cell ≡ before cell
+MeansInOrder (op ∷ ops) before after = (middle : ℕ → ℕ) × Means op before middle × MeansInOrder ops middle after
+
+-- Items do operations one after the other.
+abbrev pub DoesInOrder : List Op → Needs → (bank to : Bank) → List Item → Type 0
+DoesInOrder ops = Does (flat_map cells_of_op ops) (flat_map written_by ops) (MeansInOrder ops) (sum_by words_of ops) (sum_by weight_of ops)

@@ -5,8 +5,10 @@
 #![tactic(auto)]
 
 mod coding;
+mod laws;
 mod named;
 
 pub use code_items::{Code, Item};
 pub use code_steps::Bank;
 pub use coding::{Coded, code_in, code_of};
+pub use laws::{none_does, one_more_does, parts_do};
