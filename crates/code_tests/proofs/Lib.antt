@@ -1,1 +1,2 @@
 pub mod FourPagesFacts
+pub mod OperationFacts

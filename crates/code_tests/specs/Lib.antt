@@ -1,1 +1,2 @@
 pub mod FourPages
+pub mod Operations

@@ -12,6 +12,8 @@ mod code_tests;
 #[cfg(test)]
 mod layout_tests;
 #[cfg(test)]
+mod op_tests;
+#[cfg(test)]
 mod place_tests;
 #[cfg(test)]
 mod product_tests;
