@@ -12,11 +12,11 @@ use Rattle.map_file.specs.declared.maps.Map.{Map}
 use Rattle.preempt_core.specs.declared.steps.Step.{Step}
 use Rattle.preempt_core.specs.declared.steps.Step.TheVariants as core
 use Rattle.preempt_core.specs.declared.steps.Done.TheVariants as answers
-use Rattle.preempt_core.specs.Runs.{Told, priority, with_latch, answer, arrived, then_step, told}
+use Rattle.preempt_core.specs.Runs.{Told, priority, with_latch, answer, arrived, then_step, committed_in, told}
 use Rattle.core_story.specs.Values.{item}
 use Rattle.core_story.specs.Interface.{level_at}
 use Rattle.core_steps.specs.LogSteps.{numbers_where, arrives, arriving, arrivals_of}
-use Rattle.core_steps.specs.Tied.{priorities_of, taken_in, committed_in}
+use Rattle.core_steps.specs.Tied.{priorities_of, taken_in}
 
 -- The events that arrive are events of the map.
 below : (test : MapEvent → Bool) (n : ℕ) (es : List MapEvent) (k : ℕ) → n ≡ k + length es → AllByRecursion (λ x. x < n) (numbers_where test k es)
@@ -70,7 +70,7 @@ pub record AfterArrivals (xs : List ℕ) (before after : Told) : Type 0 where
   pub taken : taken_in after.answers ≡ taken_in before.answers
   pub committed : committed_in after.answers ≡ committed_in before.answers
 
-module _ (priorities : List ℕ) (react : List ℕ → ℕ → List ℕ) (first : List ℕ) where
+module _ (priorities : List ℕ) (react : ℕ → List ℕ → ℕ → List ℕ) (first : List ℕ) where
   nat_lt_of : (a b : ℕ) → a < b → nat_lt a b ≡ true
   nat_lt_of a b h = grind (arith, nat_tests)
 

@@ -12,7 +12,7 @@ use Rattle.map_file.specs.MapRules.{IsMap}
 use Rattle.preempt_core.specs.declared.steps.Step.{Step}
 use Rattle.preempt_core.specs.declared.steps.Step.TheVariants as core
 use Rattle.preempt_core.specs.declared.steps.Done.TheVariants as answers
-use Rattle.preempt_core.specs.Runs.{Active, Told, priority, top_priority, most_urgent, begins, step_from, then_step, told}
+use Rattle.preempt_core.specs.Runs.{Active, Told, priority, top_priority, most_urgent, begins, step_from, then_step, committed_in, told}
 use Rattle.timed_core.specs.Timing.{Timing}
 use Rattle.timed_core.specs.Steps.{Run, Phase, Label, fresh, voided, top_level, locked, Best}
 use Rattle.timed_core.specs.Steps.Phase.{Boots, Rests, Works, Owes, Chooses, Begins, Repeats, Nears, Copies, Leaves}
@@ -27,7 +27,7 @@ use Rattle.core_story.specs.Interface.{Fitted, level_at}
 use Rattle.core_story.specs.Interface as stories
 use Rattle.core_story.proofs.ItemLaws.{event_with_level}
 use Rattle.core_steps.specs.LogSteps.{Reading, held_back, add, take_all, take_event, commit_all, resume, turn_on, choose, drop_top}
-use Rattle.core_steps.specs.Tied.{priorities_of, next_state, taken_in, committed_in}
+use Rattle.core_steps.specs.Tied.{priorities_of, next_state, taken_in}
 use Rattle.core_steps.proofs.ArriveLaws.{AfterArrivals}
 use Rattle.core_steps.proofs.ShownLaws.{cleared_by, is_turning}
 use Rattle.core_steps.proofs.StandLaws.{Stands, stands_later, stands_voided, stands_open, not_before, commits_it, resumes_it, redoes_it}
@@ -177,7 +177,7 @@ module _ (p : ProgramTree) (m : Map) (is_map : IsMap m) (t : Timing) (fitted : F
           → Tie p m first (λ x. now x && true) (Leaves top.event t.exiting) (voided rs) (add core.Commit r) (ts ++ []) (cs ++ (top.event ∷ []))
       by [] it h = absurd h
       by (a ∷ rest) it h =
-          let after : Told = record tie.core { answers = answers.Committed a.event ∷ tie.core.answers; stack = record a { committed = true } ∷ rest; last = suc (length tie.core.answers); state = next_state p m a.read a.event } in
+          let after : Told = record tie.core { answers = answers.Committed a.event ∷ tie.core.answers; stack = record a { committed = true } ∷ rest; last = suc (length tie.core.answers); state = next_state p m (length (committed_in tie.core.answers)) a.read a.event } in
           record {
             core = after;
             allowed = one_more core.Commit tie.core after tie.allowed (commits_it (priorities_of m) (next_state p m) tie.core a rest it h.2 (h.1 ∙ clean));

@@ -4,7 +4,7 @@ use Rattle.std.proofs.Common.{◌≡◌, refl, arith}
 use Rattle.std.proofs.lemmas.Bool.Decides.{nat_tests}
 use Rattle.preempt_core.specs.declared.steps.Step.TheVariants as core
 use Rattle.preempt_core.specs.declared.steps.Done.TheVariants as answers
-use Rattle.preempt_core.specs.Runs.{Active, Told, priority, top_priority, most_urgent, with_latch, begins, is_left, step_from}
+use Rattle.preempt_core.specs.Runs.{Active, Told, priority, top_priority, most_urgent, with_latch, begins, is_left, committed_in, step_from}
 use Rattle.timed_core.specs.Steps.{Run, voided}
 
 -- The runs of a list of steps are those of a tale: none has committed, each began within the list, and it is void where it
@@ -41,7 +41,7 @@ stands_open last n (r ∷ rs) (a ∷ rest) s = s.2
 stands_open last n [] (a ∷ rest) s = absurd s
 stands_open last n (r ∷ rs) [] s = absurd s
 
-module _ (priorities : List ℕ) (react : List ℕ → ℕ → List ℕ) (t : Told) where
+module _ (priorities : List ℕ) (react : ℕ → List ℕ → ℕ → List ℕ) (t : Told) where
   -- The most urgent event that waits is taken where it is above the top run.
   pub takes_it : (h : ℕ) → is_left t.stack ≡ false → most_urgent priorities t.latched (length priorities) ≡ Some h → top_priority priorities t.stack < priority priorities h
       → step_from priorities react t core.Take ≡ Some (record t { answers = answers.Took h ∷ t.answers; latched = with_latch t.latched h false; stack = begins t h ∷ t.stack })
@@ -50,7 +50,7 @@ module _ (priorities : List ℕ) (react : List ℕ → ℕ → List ℕ) (t : To
   -- The top run commits where it isn't void.
   pub commits_it : (a : Active) (rest : List Active) → t.stack ≡ a ∷ rest → a.committed ≡ false → nat_lt a.began t.last ≡ false
       → step_from priorities react t core.Commit
-      ≡ Some (record t { answers = answers.Committed a.event ∷ t.answers; stack = record a { committed = true } ∷ rest; last = suc (length t.answers); state = react a.read a.event })
+      ≡ Some (record t { answers = answers.Committed a.event ∷ t.answers; stack = record a { committed = true } ∷ rest; last = suc (length t.answers); state = react (length (committed_in t.answers)) a.read a.event })
   commits_it a rest at up clean = rw (at, up, clean) refl
 
   -- A run that has committed is left.

@@ -22,7 +22,7 @@ all_filtered P test (x ∷ xs) h = by (test x) (all_filtered P test xs h.1)
 abbrev pub after_take : Told → ℕ → Told
 after_take t h = record t { answers = answers.Took h ∷ t.answers; latched = with_latch t.latched h false; stack = begins t h ∷ t.stack }
 
-module _ (priorities : List ℕ) (react : List ℕ → ℕ → List ℕ) (first : List ℕ) (h : ℕ) (held : List ℕ) where
+module _ (priorities : List ℕ) (react : ℕ → List ℕ → ℕ → List ℕ) (first : List ℕ) (h : ℕ) (held : List ℕ) where
   abbrev own : List ℕ
   own = filter (λ x. x == h) held
 

@@ -5,11 +5,11 @@ use Rattle.std.proofs.Common.{◌≡◌, refl, sym, ap, subst, ◌∙◌, arith}
 use Rattle.frp_tree.specs.Tree.{ProgramTree}
 use Rattle.map_file.specs.declared.maps.Map.{Map}
 use Rattle.preempt_core.specs.declared.steps.Step.TheVariants as core
-use Rattle.preempt_core.specs.Runs.{Active, Told, told}
+use Rattle.preempt_core.specs.Runs.{Active, Told, committed_in, told}
 use Rattle.timed_core.specs.Steps.{Run, Phase}
 use Rattle.timed_core.specs.Steps.Phase.{Boots, Rests, Works, Owes, Chooses, Begins, Repeats, Nears, Copies, Leaves}
 use Rattle.core_steps.specs.LogSteps.{Reading, add, arrive, arrive_all, held_back}
-use Rattle.core_steps.specs.Tied.{priorities_of, next_state, taken_in, committed_in}
+use Rattle.core_steps.specs.Tied.{priorities_of, next_state, taken_in}
 use Rattle.core_steps.proofs.ArriveLaws.{arrivals_told}
 use Rattle.core_steps.proofs.StandLaws.{Stands, stands_later}
 

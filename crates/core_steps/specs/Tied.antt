@@ -7,7 +7,7 @@ use Rattle.map_file.specs.declared.maps.MapEvent.{MapEvent}
 use Rattle.map_file.specs.declared.maps.Map.{Map}
 use Rattle.preempt_core.specs.declared.steps.Done.{Done}
 use Rattle.preempt_core.specs.declared.steps.Done.TheVariants as answers
-use Rattle.preempt_core.specs.Runs.{Told, told}
+use Rattle.preempt_core.specs.Runs.{Told, committed_in, told}
 use Rattle.core_steps.specs.LogSteps.{clearing, committing, core_steps}
 
 -- The priorities of the events, by number.
@@ -19,20 +19,16 @@ name_from [] x = []
 name_from (e ∷ es) zero = e.name
 name_from (e ∷ es) (suc x) = name_from es x
 
--- The state after the reaction to an event, without samples; the same state where the reaction is undefined.
-abbrev pub next_state : ProgramTree → Map → List ℕ → ℕ → List ℕ
-next_state p m state e = elim (react p state [] (name_from m.events e)) [ Some r ↦ r.state | None ↦ state ]
+-- The state after the reaction to an event, without samples, however many commits there were before; the same state where the
+-- reaction is undefined.
+abbrev pub next_state : ProgramTree → Map → ℕ → List ℕ → ℕ → List ℕ
+next_state p m k state e = elim (react p state [] (name_from m.events e)) [ Some r ↦ r.state | None ↦ state ]
 
--- The events that were taken, and those that committed, by the answers to a list of steps, the last first.
+-- The events that were taken, by the answers to a list of steps, the last first.
 abbrev pub taken_in : List Done → List ℕ
 taken_in [] = []
 taken_in (answers.Took e ∷ ds) = e ∷ taken_in ds
 taken_in (d ∷ ds) = taken_in ds
-
-abbrev pub committed_in : List Done → List ℕ
-committed_in [] = []
-committed_in (answers.Committed e ∷ ds) = e ∷ committed_in ds
-committed_in (d ∷ ds) = committed_in ds
 
 -- The events whose flag was cleared, and those whose commit address ran, in the first n steps, in order.
 abbrev pub cleared_events : Map → Log → ℕ → List ℕ

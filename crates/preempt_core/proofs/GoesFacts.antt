@@ -5,9 +5,9 @@ use Rattle.std.proofs.lemmas.Bool.Decides.{nat_tests}
 use Rattle.preempt_core.specs.declared.steps.Step.{Step}
 use Rattle.preempt_core.specs.declared.steps.Step.TheVariants as steps
 use Rattle.preempt_core.specs.declared.steps.Done.TheVariants as answers
-use Rattle.preempt_core.specs.Runs.{Active, Told, priority, top_priority, more_urgent, most_urgent, is_void, with_latch, answer, begins, taken, is_left, top_step, arrived, step_from, start, then_step, told}
+use Rattle.preempt_core.specs.Runs.{Active, Told, priority, top_priority, more_urgent, most_urgent, is_void, with_latch, answer, begins, taken, is_left, committed_in, top_step, arrived, step_from, start, then_step, told}
 
-pub data Goes (priorities : List ℕ) (react : List ℕ → ℕ → List ℕ) (t : Told) : Told → Type 0 where
+pub data Goes (priorities : List ℕ) (react : ℕ → List ℕ → ℕ → List ℕ) (t : Told) : Told → Type 0 where
   latches : {e : ℕ} → t.latched e ≡ false → Goes priorities react t (record t { answers = answers.Latched e ∷ t.answers; latched = with_latch t.latched e true })
   merges : {e : ℕ} → t.latched e ≡ true → Goes priorities react t (answer t (answers.Merged e))
   takes : {e : ℕ} → is_left t.stack ≡ false → t.latched e ≡ true → top_priority priorities t.stack < priority priorities e
@@ -16,7 +16,7 @@ pub data Goes (priorities : List ℕ) (react : List ℕ → ℕ → List ℕ) (t
   redoes : {r : Active} {rs : List Active} → t.stack ≡ r ∷ rs → r.committed ≡ false
       → Goes priorities react t (record t { answers = answers.Redone r.event ∷ t.answers; stack = begins t r.event ∷ rs })
   commits : {r : Active} {rs : List Active} → t.stack ≡ r ∷ rs → r.committed ≡ false → is_void t.last r ≡ false
-      → Goes priorities react t (record t { answers = answers.Committed r.event ∷ t.answers; stack = record r { committed = true } ∷ rs; last = suc (length t.answers); state = react r.read r.event })
+      → Goes priorities react t (record t { answers = answers.Committed r.event ∷ t.answers; stack = record r { committed = true } ∷ rs; last = suc (length t.answers); state = react (length (committed_in t.answers)) r.read r.event })
   resumes : {r : Active} {rs : List Active} → t.stack ≡ r ∷ rs → r.committed ≡ true → Goes priorities react t (record t { answers = answers.Resumed ∷ t.answers; stack = rs })
 
 urgent_waits : (priorities : List ℕ) (latched : ℕ → Bool) (n e : ℕ) → most_urgent priorities latched n ≡ Some e → latched e ≡ true
@@ -36,7 +36,7 @@ urgent_waits priorities latched (suc n) e h = by (latched n) refl h (urgent_wait
     by true set it rest = either (most_urgent priorities latched n) it set rest
     by false clear it rest = rest e it
 
-module _ (priorities : List ℕ) (react : List ℕ → ℕ → List ℕ) (t : Told) where
+module _ (priorities : List ℕ) (react : ℕ → List ℕ → ℕ → List ℕ) (t : Told) where
   to : {u v : Told} → Some u ≡ Some v → Goes priorities react t u → Goes priorities react t v
   to {u} {v} h g = let same : u ≡ v = cc in subst (λ x. Goes priorities react t x) same g
 
@@ -90,7 +90,7 @@ module _ (priorities : List ℕ) (react : List ℕ → ℕ → List ℕ) (t : To
   top_goes steps.Commit (r ∷ rs) u stands h = by (r.committed || is_void t.last r) refl h
     where
       by : (b : Bool) → (r.committed || is_void t.last r) ≡ b
-          → (if b then None else Some (record t { answers = answers.Committed r.event ∷ t.answers; stack = record r { committed = true } ∷ rs; last = suc (length t.answers); state = react r.read r.event })) ≡ Some u → Goes priorities react t u
+          → (if b then None else Some (record t { answers = answers.Committed r.event ∷ t.answers; stack = record r { committed = true } ∷ rs; last = suc (length t.answers); state = react (length (committed_in t.answers)) r.read r.event })) ≡ Some u → Goes priorities react t u
       by true other it = absurd cc
       by false clean it = let parts = neither r.committed (is_void t.last r) clean in to it (commits stands parts.0 parts.1)
   top_goes steps.Resume (r ∷ rs) u stands h = by r.committed refl h
@@ -111,7 +111,7 @@ module _ (priorities : List ℕ) (react : List ℕ → ℕ → List ℕ) (t : To
   goes steps.Resume u h = top_goes steps.Resume t.stack u refl h
 
 -- What holds at the start, and after an allowed step where it held before, holds after each list of allowed steps.
-pub after_all : (priorities : List ℕ) (react : List ℕ → ℕ → List ℕ) (first : List ℕ) (P : Told → Type 0) → P (start first) → ((t u : Told) → Goes priorities react t u → P t → P u)
+pub after_all : (priorities : List ℕ) (react : ℕ → List ℕ → ℕ → List ℕ) (first : List ℕ) (P : Told → Type 0) → P (start first) → ((t u : Told) → Goes priorities react t u → P t → P u)
     → (steps : List Step) (t : Told) → told priorities react first steps ≡ Some t → P t
 after_all priorities react first P starts kept [] t h = let same : start first ≡ t = cc in subst P same starts
 after_all priorities react first P starts kept (s ∷ before) t h = by (told priorities react first before) refl h (after_all priorities react first P starts kept before)

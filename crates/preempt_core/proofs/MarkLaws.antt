@@ -5,7 +5,7 @@ use Rattle.std.proofs.lemmas.Bool.Decides.{nat_tests}
 use Rattle.preempt_core.specs.declared.steps.Step.{Step}
 use Rattle.preempt_core.specs.declared.steps.Step.TheVariants as steps
 use Rattle.preempt_core.specs.declared.steps.Done.TheVariants as answers
-use Rattle.preempt_core.specs.Runs.{Active, Told, priority, top_priority, most_urgent, is_void, with_latch, answer, begins, taken, is_left, top_step, arrived, step_from, then_step, told}
+use Rattle.preempt_core.specs.Runs.{Active, Told, priority, top_priority, most_urgent, is_void, with_latch, answer, begins, taken, is_left, committed_in, top_step, arrived, step_from, then_step, told}
 use Rattle.preempt_core.specs.Marks.{Mark, mark_priority, leaves, fresh_mark, take_marked, mark_is_left, top_marked, arrived_marked, marked_step, mark_of, marks_of, answered_if, MarksLookBack}
 use Rattle.preempt_core.proofs.GoesFacts.{Goes, latches, merges, takes, works, redoes, commits, resumes, after_all}
 
@@ -69,7 +69,7 @@ priority_marks : (priorities : List ℕ) (last : ℕ) (st : List Active) → mar
 priority_marks priorities last [] = refl
 priority_marks priorities last (r ∷ rs) = refl
 
-module _ (priorities : List ℕ) (react : List ℕ → ℕ → List ℕ) (t : Told) (w : Within t) where
+module _ (priorities : List ℕ) (react : ℕ → List ℕ → ℕ → List ℕ) (t : Told) (w : Within t) where
   -- A run that begins isn't void.
   fresh_is : (e : ℕ) → fresh_mark e ≡ mark_of t.last (begins t e)
   fresh_is e = let clean = and_false (nat_lt (suc (length t.answers)) t.last) (not false) (not_later (suc (length t.answers)) t.last (let low = w.last in omega arith)) in cc
@@ -124,7 +124,7 @@ module _ (priorities : List ℕ) (react : List ℕ → ℕ → List ℕ) (t : To
 
       by : (b : Bool) → (r.committed || is_void t.last r) ≡ b
           → (if b then None else leaves (answers.Committed r.event) (record { latched = t.latched; runs = record (mark_of t.last r) { committed = true } ∷ map (λ (m : Mark). record m { void = true }) (map (mark_of t.last) rs) }))
-          ≡ answered_if (if b then None else Some (record t { answers = answers.Committed r.event ∷ t.answers; stack = record r { committed = true } ∷ rs; last = suc (length t.answers); state = react r.read r.event }))
+          ≡ answered_if (if b then None else Some (record t { answers = answers.Committed r.event ∷ t.answers; stack = record r { committed = true } ∷ rs; last = suc (length t.answers); state = react (length (committed_in t.answers)) r.read r.event }))
       by true h = refl
       by false h = let its = mark h in let rest = voided_marks (length t.answers) t.last rs o.1 in cc
   top steps.Resume (r ∷ rs) o stands = by r.committed
@@ -144,7 +144,7 @@ module _ (priorities : List ℕ) (react : List ℕ → ℕ → List ℕ) (t : To
   same_step steps.Commit = top steps.Commit t.stack w.beneath refl
   same_step steps.Resume = top steps.Resume t.stack w.beneath refl
 
-module _ (priorities : List ℕ) (react : List ℕ → ℕ → List ℕ) (first : List ℕ) where
+module _ (priorities : List ℕ) (react : ℕ → List ℕ → ℕ → List ℕ) (first : List ℕ) where
   kept : (t u : Told) → Goes priorities react t u → Within t → Within u
   kept t u (latches clear) w = let low = w.last in record { last = omega arith; beneath = beneath_later (length t.answers) t.stack w.beneath }
   kept t u (merges set) w = let low = w.last in record { last = omega arith; beneath = beneath_later (length t.answers) t.stack w.beneath }

@@ -3,7 +3,7 @@ use Rattle.std.specs.Prelude.{ℕ, suc, ◌+◌, ◌<◌, ◌≤◌, ◌==◌, B
 use Rattle.std.proofs.Common.{◌≡◌, refl, ap, subst, ◌∙◌, arith}
 use Rattle.std.proofs.lemmas.Bool.Decides.{nat_tests}
 use Rattle.preempt_core.specs.declared.steps.Step.{Step}
-use Rattle.preempt_core.specs.Runs.{Active, Told, with_latch, start, told}
+use Rattle.preempt_core.specs.Runs.{Active, Told, with_latch, committed_in, start, told}
 use Rattle.preempt_core.specs.Serial.{one, uncommitted, Rising, ReadsPresent, Lawful, AlwaysLawful}
 use Rattle.preempt_core.proofs.GoesFacts.{Goes, latches, merges, takes, works, redoes, commits, resumes, after_all}
 
@@ -38,7 +38,7 @@ and_none : (a b : Bool) → b ≡ true → one (a && not b) ≡ 0
 and_none true b h = ap (λ c. one (not c)) h
 and_none false b h = refl
 
-module _ (priorities : List ℕ) (react : List ℕ → ℕ → List ℕ) (first : List ℕ) where
+module _ (priorities : List ℕ) (react : ℕ → List ℕ → ℕ → List ℕ) (first : List ℕ) where
   record Kept (t : Told) : Type 0 where
     lawful : Lawful priorities react first t
     began : BeganBy (length t.answers) t.stack
@@ -111,7 +111,7 @@ module _ (priorities : List ℕ) (react : List ℕ → ℕ → List ℕ) (first 
           rising = (on.rising.0, on.rising.1);
           once = λ x. omega (arith, k.lawful.once x, ap (uncommitted x) stands, and_one (x == r.event) r.committed open_run, and_none (x == r.event) true refl);
           present = (λ closed _. absurd cc, beneath_void (length t.answers) _ rs on.began.1);
-          is_serial = ap (λ s. react s r.event) (on.present.0 open_run clean ∙ k.lawful.is_serial);
+          is_serial = ap (λ s. react (length (committed_in t.answers)) s r.event) (on.present.0 open_run clean ∙ k.lawful.is_serial);
         };
         began = (let low = on.began.0 in omega arith, began_later (length t.answers) rs on.began.1);
       }

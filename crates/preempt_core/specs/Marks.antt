@@ -87,5 +87,5 @@ answered_if (Some t) = answered t
 -- After each list of allowed steps, a step by marks is the step by looking back: it is allowed where that is, answers the
 -- same, and leaves the same marks.
 abbrev pub MarksLookBack : Type 0
-MarksLookBack = (priorities : List ℕ) (react : List ℕ → ℕ → List ℕ) (first : List ℕ) (before : List Step) (t : Told) (s : Step) → told priorities react first before ≡ Some t
+MarksLookBack = (priorities : List ℕ) (react : ℕ → List ℕ → ℕ → List ℕ) (first : List ℕ) (before : List Step) (t : Told) (s : Step) → told priorities react first before ≡ Some t
     → marked_step priorities (marks_of t) s ≡ answered_if (told priorities react first (s ∷ before))

@@ -66,15 +66,22 @@ abbrev pub is_left : List Active → Bool
 is_left [] = false
 is_left (r ∷ rs) = r.committed
 
--- What a step comes to; None where it isn't allowed.
-abbrev pub top_step : (List ℕ → ℕ → List ℕ) → Told → Step → List Active → Option Told
+-- The events that committed, by the answers.
+abbrev pub committed_in : List Done → List ℕ
+committed_in [] = []
+committed_in (answers.Committed e ∷ ds) = e ∷ committed_in ds
+committed_in (d ∷ ds) = committed_in ds
+
+-- What a step comes to; None where it isn't allowed. A commit's reaction goes by how many commits there were before, the state
+-- that the run read, and the event.
+abbrev pub top_step : (ℕ → List ℕ → ℕ → List ℕ) → Told → Step → List Active → Option Told
 top_step react t s [] = None
 top_step react t steps.Work (r ∷ rs) = if r.committed then None else Some (answer t answers.Worked)
 top_step react t steps.Redo (r ∷ rs) = if is_void t.last r then Some (record t { answers = answers.Redone r.event ∷ t.answers; stack = begins t r.event ∷ rs }) else None
 top_step react t steps.Commit (r ∷ rs) =
     if r.committed || is_void t.last r
     then None
-    else Some (record t { answers = answers.Committed r.event ∷ t.answers; stack = record r { committed = true } ∷ rs; last = suc (length t.answers); state = react r.read r.event })
+    else Some (record t { answers = answers.Committed r.event ∷ t.answers; stack = record r { committed = true } ∷ rs; last = suc (length t.answers); state = react (length (committed_in t.answers)) r.read r.event })
 top_step react t steps.Resume (r ∷ rs) = if r.committed then Some (record t { answers = answers.Resumed ∷ t.answers; stack = rs }) else None
 top_step react t _ _ = None
 
@@ -84,7 +91,7 @@ arrived priorities t e =
     then Some (if t.latched e then answer t (answers.Merged e) else record t { answers = answers.Latched e ∷ t.answers; latched = with_latch t.latched e true })
     else None
 
-abbrev pub step_from : List ℕ → (List ℕ → ℕ → List ℕ) → Told → Step → Option Told
+abbrev pub step_from : List ℕ → (ℕ → List ℕ → ℕ → List ℕ) → Told → Step → Option Told
 step_from priorities react t (steps.Arrive e) = arrived priorities t e
 step_from priorities react t steps.Take = if is_left t.stack then None else taken priorities t (most_urgent priorities t.latched (length priorities))
 step_from priorities react t s = top_step react t s t.stack
@@ -94,10 +101,10 @@ abbrev pub start : List ℕ → Told
 start state = record { answers = []; latched = λ x. false; stack = []; last = 0; state = state }
 
 -- What a list of steps, the last first, has come to from a first state; None where one of them isn't allowed.
-abbrev pub then_step : List ℕ → (List ℕ → ℕ → List ℕ) → Option Told → Step → Option Told
+abbrev pub then_step : List ℕ → (ℕ → List ℕ → ℕ → List ℕ) → Option Told → Step → Option Told
 then_step priorities react None s = None
 then_step priorities react (Some t) s = step_from priorities react t s
 
-abbrev pub told : List ℕ → (List ℕ → ℕ → List ℕ) → List ℕ → List Step → Option Told
+abbrev pub told : List ℕ → (ℕ → List ℕ → ℕ → List ℕ) → List ℕ → List Step → Option Told
 told priorities react first [] = Some (start first)
 told priorities react first (s ∷ before) = then_step priorities react (told priorities react first before) s

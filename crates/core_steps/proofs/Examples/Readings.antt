@@ -23,7 +23,7 @@ turns = (refl, refl, refl)
 
 -- The events that these steps take, where event 1 has the higher priority.
 abbrev takes : List Step → List ℕ
-takes steps = elim (told (1 ∷ 3 ∷ []) (λ state e. state) [] steps) [ Some t ↦ taken_in t.answers | None ↦ [] ]
+takes steps = elim (told (1 ∷ 3 ∷ []) (λ k state e. state) [] steps) [ Some t ↦ taken_in t.answers | None ↦ [] ]
 
 -- With event 1's arrival in its place, before the Take, the core would have taken event 1.
 pub takes_chosen : (takes chosen.steps ≡ 0 ∷ []) × (takes (core.Take ∷ core.Arrive 1 ∷ core.Arrive 0 ∷ core.Arrive 0 ∷ []) ≡ 1 ∷ [])

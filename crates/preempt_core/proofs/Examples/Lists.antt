@@ -9,7 +9,7 @@ use Rattle.preempt_core.specs.Runs.{Told, told}
 
 -- What two events of priorities 1 and 2 have come to, where a reaction adds its event's number to the state.
 abbrev after : List Step → Option Told
-after list = told (1 ∷ 2 ∷ []) (λ state e. e ∷ state) [] (reverse list)
+after list = told (1 ∷ 2 ∷ []) (λ k state e. e ∷ state) [] (reverse list)
 
 abbrev answers_of : Option Told → Option (List Done)
 answers_of None = None
