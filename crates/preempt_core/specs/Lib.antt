@@ -1,4 +1,5 @@
 pub mod Marks
+pub mod Replays
 pub mod Runs
 pub mod Serial
 pub mod Standing

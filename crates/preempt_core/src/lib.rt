@@ -4,10 +4,12 @@
 
 mod laws;
 mod priority_core;
+mod replays;
 mod runs;
 mod steps;
 mod urgency;
 
 pub use laws::{commits_are_serial, marks_look_back};
 pub use priority_core::Core;
+pub use replays::{Played, ReplayFault, replay};
 pub use steps::{Done, Step};
