@@ -1,6 +1,7 @@
 pub mod StateLaws
 pub mod ByteSumLaws
 pub mod SoundFacts
+pub mod TemplateLaws
 pub mod WeighingFacts
 pub mod CoreFacts
 pub mod ProductFacts
