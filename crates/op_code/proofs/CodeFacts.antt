@@ -1,5 +1,5 @@
 -- The code of a right template does its operation.
-use Rattle.std.proofs.Common.{◌≡◌, ℕ, ◌+◌, ◌%◌, ◌≤◌, ◌⊎◌, Bool, true, false, if◌then◌else◌, IsTrue, None, List, map, length, ap, ◌∙◌, sym, refl, subst, arith, lit≤, inl, inr}
+use Rattle.std.proofs.Common.{◌≡◌, ℕ, ◌+◌, ◌%◌, ◌≤◌, ◌⊎◌, Bool, true, false, if◌then◌else◌, None, List, map, length, ap, ◌∙◌, sym, refl, subst, arith, inl, inr}
 use Rattle.std.proofs.lemmas.List.{length-map}
 use Rattle.std.specs.List.{AllByRecursion}
 use Rattle.pic_isa.specs.declared.instructions.Instr.{Instr}
@@ -8,7 +8,7 @@ use Rattle.pic_machine.specs.Chip.{Chip}
 use Rattle.pic_machine.specs.Results.{Done}
 use Rattle.byte_ops.specs.declared.operations.Op.{Op}
 use Rattle.byte_ops.specs.Meaning.{HasBools, Means, read_by, result_in, value_of, written_by}
-use Rattle.byte_ops.specs.Weights.{number_type, weight_of}
+use Rattle.byte_ops.specs.Weights.{weight_of}
 use Rattle.bank_alloc.specs.declared.needs.Needs.{Needs}
 use Rattle.bank_alloc.specs.Needs.{bytes_of}
 use Rattle.bank_alloc.specs.Addresses.{address_of}
@@ -29,11 +29,8 @@ use Rattle.code_acts.specs.Standing.{AtStart, Like, PlacesOf, view}
 use Rattle.code_acts.proofs.CodeLaws.{instrs_fit, sets_none, skips_well, words_at_most}
 use Rattle.code_acts.proofs.EndLaws.{ends_anywhere, leaves}
 use Rattle.code_acts.proofs.PlaceLaws.{keeps_pclath, misses_pclath}
-use Rattle.byte_ops.specs.Kinds.{IsOp, is_product}
+use Rattle.byte_ops.specs.Kinds.{IsOp}
 use Rattle.byte_ops.specs.declared.operations.Op.TheVariants.{Product}
-use Rattle.frp_tree.specs.declared.syntax.BinOp.{BinOp}
-use Rattle.frp_tree.specs.declared.syntax.BinOp.TheVariants.{Mul, Div, Rem}
-use Rattle.efrp_meaning.specs.Bounds.{binary_weight}
 use Rattle.product_templates.specs.Templates.{product_template}
 use Rattle.product_templates.specs.Laws.{bound_of}
 use Rattle.product_templates.proofs.TemplateLaws.{are_short, are_sound, template_does}
@@ -207,24 +204,15 @@ module _ (need : Needs) (op : Op) (acts : List Act) (fits : bytes_of need ≤ 35
         stays = does_stay;
       }
 
--- Products take no more words than they weigh.
-product_within : (f : BinOp) (wide : Bool) → IsTrue (is_product f) → bound_of f wide ≤ binary_weight f (number_type wide)
-product_within Mul true kind = lit≤ tt
-product_within Mul false kind = lit≤ tt
-product_within Div true kind = lit≤ tt
-product_within Div false kind = lit≤ tt
-product_within Rem true kind = lit≤ tt
-product_within Rem false kind = lit≤ tt
-product_within _ wide kind = absurd (cc)
-
 -- The acts of each operation are right.
 pub right_acts : (op : Op) → IsOp op → HasByte op → IsRight op (acts_of op)
 right_acts (Product f wide target a b) kind byte =
-    let exact : words None (product_template f wide) ≡ bound_of f wide = are_short f wide kind in
+    let short = are_short f wide kind in
+    let exact : words None (product_template f wide) ≡ bound_of f wide = short.0 in
     record {
       does = λ s none. (template_does f wide s kind none).0.0;
       is_sound = (are_sound f wide kind).1;
-      within = (omega (arith, exact), product_within f wide kind);
+      within = (omega (arith, exact), short.1);
     }
 right_acts op kind byte =
     let template = has-template op kind byte refl in
