@@ -1,0 +1,9 @@
+pub mod CheckedFacts
+pub mod LowerFacts
+pub mod LowerLaws
+pub mod MadeFacts
+pub mod NodeFacts
+pub mod OrderFacts
+pub mod OwnFacts
+pub mod RoomFacts
+pub mod TypeFacts

@@ -1,0 +1,4 @@
+pub mod Lowered
+pub mod Nodes
+pub mod Places
+pub mod Running
