@@ -126,12 +126,8 @@ const NO_COMMANDS: &[&[&str]] = &[
     &["compile", SOURCE, HEX, HEX],
 ];
 
-/// Words of the commands to come.
-const COMMANDS_TO_COME: &[&[&str]] = &[
-    &["check", SOURCE],
-    &["model", SOURCE, "b.events"],
-    &["big", "7", HEX, MAP],
-];
+/// Words of the command to come.
+const TO_COME: &[&str] = &["big", "7", HEX, MAP];
 
 // Whether these words are answered with the usage line.
 fn form_no_command(rt: &(impl AllocGlobal + Print), words: &[&str]) -> bool {
@@ -150,10 +146,8 @@ fn answers_other_words_with_the_usage_line(rt: HostRuntime) {
 }
 
 #[test]
-fn answers_commands_to_come_with_the_usage_line(rt: HostRuntime) {
-    for words in COMMANDS_TO_COME {
-        assert!(rt; form_no_command(&rt, words), "{words:?}");
-    }
+fn answers_the_command_to_come_with_the_usage_line(rt: HostRuntime) {
+    assert!(rt; form_no_command(&rt, TO_COME));
 }
 
 // Whether a counter that blanks make this long ends so.

@@ -5,7 +5,11 @@
 #[cfg(test)]
 mod calls;
 #[cfg(test)]
+mod check_tests;
+#[cfg(test)]
 mod compile_tests;
+#[cfg(test)]
+mod model_tests;
 #[cfg(test)]
 mod run_calls;
 #[cfg(test)]

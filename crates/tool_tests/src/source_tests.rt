@@ -96,7 +96,7 @@ const LIMITS: &[(Made<'_>, &str)] = &[
     ),
     (
         (&[("event A = INT priority 1;", 11)], 1, ""),
-        "refused: form\n",
+        "refused: twice A\n",
     ),
     (
         (&[("event A = INT priority 1;", 12)], 1, ""),
@@ -107,12 +107,15 @@ const LIMITS: &[(Made<'_>, &str)] = &[
         (&[("setup TRISB = 0;", 33)], 1, ""),
         "refused: many setups\n",
     ),
-    ((&[("let n : u8 = 1;", 128)], 1, ""), "refused: form\n"),
+    ((&[("let n : u8 = 1;", 128)], 1, ""), "refused: twice n\n"),
     (
         (&[("let n : u8 = 1;", 129)], 1, ""),
         "refused: many definitions\n",
     ),
-    ((&[("output PORTB = 1;", 5)], 1, ""), "refused: form\n"),
+    (
+        (&[("output PORTB = 1;", 5)], 1, ""),
+        "refused: output twice PORTB\n",
+    ),
     (
         (&[("output PORTB = 1;", 6)], 1, ""),
         "refused: many outputs\n",
@@ -147,7 +150,7 @@ const LIMITS: &[(Made<'_>, &str)] = &[
             8,
             "",
         ),
-        "refused: form\n",
+        "refused: twice t\n",
     ),
     (
         (
