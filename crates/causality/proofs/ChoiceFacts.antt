@@ -1,5 +1,5 @@
 -- One of two: tests, and numbers.
-use Rattle.std.specs.Prelude.{◌≡◌, ℕ, ◌<◌, ◌≤◌, ◌⊎◌, Bool, true, false, ◌||◌, refl}
+use Rattle.std.specs.Prelude.{◌≡◌, ℕ, ◌<◌, ◌≤◌, ◌⊎◌, Bool, true, false, ◌||◌, cond, refl}
 use Rattle.std.proofs.Common.{arith}
 use Rattle.std.proofs.lemmas.Bool.{false≢true}
 use mathlib.Core.Logic.{inl, inr}
@@ -19,6 +19,9 @@ or-right false b h = h
 pub or-none : (b : Bool) → (b || false) ≡ b
 or-none true = refl
 or-none false = refl
+
+abbrev pub one_if : Bool → ℕ
+one_if b = cond b 1 0
 
 pub below-or-not : (a b : ℕ) → (a < b) ⊎ (b ≤ a)
 below-or-not a b = grind arith

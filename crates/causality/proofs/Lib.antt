@@ -1,6 +1,8 @@
 pub mod BridgeFacts
 pub mod ChoiceFacts
+pub mod CountFacts
 pub mod CycleLaws
+pub mod EdgeFacts
 pub mod EventFacts
 pub mod Examples
 pub mod GraphFacts
@@ -9,3 +11,4 @@ pub mod NumberFacts
 pub mod OrderFacts
 pub mod SearchFacts
 pub mod SortFacts
+pub mod WaitFacts

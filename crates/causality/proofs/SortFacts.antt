@@ -1,5 +1,5 @@
 -- An order that grows: each number is placed once, behind those to which it has an edge.
-use Rattle.std.specs.Prelude.{◌≡◌, ℕ, ◌+◌, ◌<◌, ◌⊎◌, Bool, true, false, ◌||◌, ◌==◌, List, [], ◌∷◌, ◌++◌, length, take, get_or, set, replicate, refl, if◌then◌else◌}
+use Rattle.std.specs.Prelude.{◌≡◌, ℕ, ◌+◌, ◌<◌, ◌⊎◌, Bool, true, false, ◌||◌, ◌==◌, List, [], ◌∷◌, ◌++◌, length, take, get_or, set, replicate, refl}
 use Rattle.std.specs.List.{All, count_by, list_all}
 use Rattle.std.proofs.Common.{sym, ap, subst, ◌∙◌, arith}
 use Rattle.std.proofs.lemmas.Bool.{eqb-true, false≢true}
@@ -12,17 +12,13 @@ use mathlib.Core.Logic.{inl, inr}
 use Rattle.causality.specs.Graphs.{has, edges, Edge, IsRound, is_marked, IsNext, IsSorted}
 use Rattle.causality.proofs.GraphFacts.{has-push, has-passes, all-pass, closed-path, first-edge}
 use Rattle.causality.proofs.MarkFacts.{marked-set, none-marked}
-use Rattle.causality.proofs.ChoiceFacts.{below-or-not, either, or-left}
-
--- How often a number stands in an order.
-abbrev pub times : Bool → ℕ
-times b = if b then 1 else 0
+use Rattle.causality.proofs.ChoiceFacts.{below-or-not, one_if, either, or-left}
 
 -- What is placed so far: the order has the placed numbers, and no path from these leads round.
 pub record Sorting (g : List (List ℕ)) (placed : List Bool) (order : List ℕ) : Type 0 where
   pub len : length placed ≡ length g
   pub ordered : (n : ℕ) → has order n ≡ is_marked placed n
-  pub counts : (n : ℕ) → count_by (λ m. m == n) order ≡ times (is_marked placed n)
+  pub counts : (n : ℕ) → count_by (λ m. m == n) order ≡ one_if (is_marked placed n)
   pub within : All (λ n. n < length g) order
   pub before : (k : ℕ) → k < length order → list_all (has (take k order)) (edges g (get_or order k 0)) ≡ true
   pub closed : (i : ℕ) → is_marked placed i ≡ true → (j : ℕ) → Edge g i j → is_marked placed j ≡ true
@@ -32,14 +28,14 @@ pub sort-begins : (g : List (List ℕ)) → Sorting g (replicate (length g) fals
 sort-begins g = record {
   len = length-replicate (length g) false;
   ordered = λ n. sym (none-marked (length g) n);
-  counts = λ n. sym (ap times (none-marked (length g) n));
+  counts = λ n. sym (ap one_if (none-marked (length g) n));
   within = λ k d less. absurd (omega (arith, less));
   before = λ k less. absurd (omega (arith, less));
   closed = λ i h. absurd (false≢true (sym (none-marked (length g) i) ∙ h));
   no_round = λ i h. absurd (false≢true (sym (none-marked (length g) i) ∙ h));
 }
 
-once-more : (b c : Bool) → (c ≡ true → b ≡ false) → times b + times c ≡ times (b || c)
+once-more : (b c : Bool) → (c ≡ true → b ≡ false) → one_if b + one_if c ≡ one_if (b || c)
 once-more true true h = absurd (false≢true (sym (h refl)))
 once-more true false h = refl
 once-more false true h = refl
@@ -89,8 +85,8 @@ module _ (g : List (List ℕ)) (placed : List Bool) (order : List ℕ) (i : ℕ)
   sort-goes = record {
     len = length-set placed i true ∙ so_far.len;
     ordered = λ n. has-push order i n ∙ ap (λ b. b || (i == n)) (so_far.ordered n) ∙ sym (marked-set placed i n inside);
-    counts = λ n. sum_by_push (λ m. times (m == n)) order i ∙ ap (λ c. c + times (i == n)) (so_far.counts n)
-        ∙ once-more (is_marked placed n) (i == n) (λ h. ap (is_marked placed) (sym (same n h)) ∙ next.new) ∙ ap times (sym (marked-set placed i n inside));
+    counts = λ n. sum_by_push (λ m. one_if (m == n)) order i ∙ ap (λ c. c + one_if (i == n)) (so_far.counts n)
+        ∙ once-more (is_marked placed n) (i == n) (λ h. ap (is_marked placed) (sym (same n h)) ∙ next.new) ∙ ap one_if (sym (marked-set placed i n inside));
     within = All-push (λ n. n < length g) order i so_far.within next.inside;
     before = λ k less. before-at k (split k less);
     closed = λ n h j edge. kept j (still-closed n (was n h) j edge);
@@ -99,7 +95,7 @@ module _ (g : List (List ℕ)) (placed : List Bool) (order : List ℕ) (i : ℕ)
 
 pub sort-ends : (g : List (List ℕ)) (placed : List Bool) (order : List ℕ) → Sorting g placed order → list_all (λ b. b) placed ≡ true → IsSorted g order
 sort-ends g placed order done all = record {
-  once = λ n less. done.counts n ∙ ap times (marked n less);
+  once = λ n less. done.counts n ∙ ap one_if (marked n less);
   within = done.within;
   before = done.before;
   no_round = λ i round. elim (below-or-not i (length g)) [

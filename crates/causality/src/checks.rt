@@ -49,8 +49,8 @@ fn all_orders(alloc: Global, t: &Typed) -> Result<List<List<u8>>, CycleFault>
 
 /// The program with an order of its definitions on each event. Refused where on some event a definition depends on
 /// itself: told are the first such event and the first such definition on it. `Memory` may be told in place of either.
-/// On a refusal the program is dropped. The time on an event is at most that of going over all definitions and names
-/// once for each definition.
+/// On a refusal the program is dropped. The time on an event is that of going over all definitions and names a fixed
+/// number of times; on the event that is told, at most once for each definition.
 pub fn orders(alloc: Global, t: Typed) -> Result<Checked, CycleFault>
     ensures kept { IfOk result (λ c. c.typed.program ≡ t.program) }
     ensures told { Orders (program_tree_of t.program) result }

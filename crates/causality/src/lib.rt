@@ -3,6 +3,7 @@
 
 mod checked;
 mod checks;
+mod edges;
 mod faults;
 mod graphs;
 mod laws;

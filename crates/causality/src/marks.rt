@@ -16,19 +16,6 @@ pub fn no_marks(alloc: Global, count: usize) -> Result<Vec<bool>, AllocError>
     Ok(marked)
 }
 
-/// Whether all of the numbers are marked. Takes no memory.
-pub fn are_marked(numbers: &[u8], marked: &[bool]) -> bool
-    requires { All (λ n. n < length marked.now) numbers.now }
-    ensures { result ≡ list_all (is_marked marked.now) numbers.now }
-{
-    for n in numbers {
-        if !marked[*n as usize] {
-            return false;
-        }
-    }
-    true
-}
-
 /// Marks the numbers, and adds those that had none to what is left to do. An `Err` is out of memory.
 pub fn mark(numbers: &[u8], marked: &mut Vec<bool>, left: &mut Vec<u8>) -> Result<(), AllocError>
     requires { All (λ n. n < length marked.old.items) numbers.now }

@@ -1,15 +1,21 @@
-use Rattle.std.proofs.Common.{ap, subst, sym, ◌∙◌, MatchOption, Err, option_map, ℕ, ◌<◌, length, get_or, refl, arith}
+use Rattle.std.proofs.Common.{ap, subst, sym, ◌∙◌, MatchOption, Err, option_map, ℕ, ◌<◌, ◌≤◌, length, get_or, refl, arith}
 use Rattle.std.proofs.lemmas.List.{length-map}
 use Rattle.std.proofs.lemmas.Option.{slice_get_read, slice_get-map}
 use Rattle.frp_tree.specs.Tree.{decl_of, program_tree_of}
 use Rattle.causality.specs.Answers.{OrdersOn}
 use Rattle.causality.specs.Graphs.{IsFirstRound, IsGraph, IsSorted, IsStuck, edges_on, IsRound}
+use Rattle.causality.specs.Waits.{edge_count}
+use Rattle.causality.proofs.CountFacts.{few-edges}
 use Rattle.causality.proofs.OrderFacts.{is-graph, is-order, sorted-is-causal, stuck-has-round, is-first-on}
 use Rattle.causality.proofs.checks.order_on.Goals as goal
 
 pub sorted-requires-clause-graph : goal.sorted-requires-clause-graph
 sorted-requires-clause-graph c =
     subst IsGraph (sym (c.as_slice.ensures ∙ c.in_ok-graph.ensures)) (is-graph (program_tree_of c.args.t.now.program) c.args.event.now c.args.t.now.checked.names)
+
+pub sorted-requires-clause-few_edges : goal.sorted-requires-clause-few_edges
+sorted-requires-clause-few_edges c =
+    subst (λ g. edge_count g ≤ 4096) (sym (c.as_slice.ensures ∙ c.in_ok-graph.ensures)) (few-edges (program_tree_of c.args.t.now.program) c.args.event.now c.args.t.now.formed)
 
 pub returns-in-Some : goal.returns-in-Some
 returns-in-Some c =
