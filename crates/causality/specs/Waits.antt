@@ -15,15 +15,15 @@ between g i j = count_by (λ m. m == j) (edges g i)
 abbrev pub is_between : ℕ → ℕ → Edge → Bool
 is_between i j e = (e.user == i) && (e.used == j)
 
--- The edges of a graph's first numbers, in any order, each as often as the graph has it.
+-- The edges of a graph's first numbers, in any order, each as often as the graph has it, and no others.
 pub record AreEdges (g : List (List ℕ)) (count : ℕ) (es : List Edge) : Type 0 where
   pub size : length es ≡ sum_by length (take count g)
   pub within : All (λ (e : Edge). (e.user < length g) × (e.used < length g)) es
   pub each : (i j : ℕ) → i < count → count_by (is_between i j) es ≡ between g i j
   pub later : (i j : ℕ) → count ≤ i → count_by (is_between i j) es ≡ 0
 
--- The nodes of a list are the graph's numbers and after them its edges: the number that has the edge of a node, and how many of
--- these nodes are edges of a number.
+-- Nodes of lists are the n numbers of a graph and after them its edges. The number that has the edge of a node; and how many of
+-- these nodes are edges of the number i.
 abbrev pub user_of : List Edge → ℕ → ℕ → ℕ
 user_of es n x = (get_or es (x - n) (record { user = 0; used = 0 })).user
 
@@ -34,7 +34,7 @@ from es n i nodes = count_by (λ x. user_of es n x == i) nodes
 abbrev pub IsEdgeNode : ℕ → ℕ → ℕ → Type 0
 IsEdgeNode n count x = (n ≤ x) × (x < n + count)
 
--- The list of each number has the first edges that lead to it; the last list, that of the ready numbers, is empty.
+-- Of the first edges the list of each number has those that lead to it; the last list, that of the ready numbers, is empty.
 pub record AreUsers (n : ℕ) (es : List Edge) (count : ℕ) (rows : NodeLists) : Type 0 where
   pub lists : length rows.lists ≡ n + 1
   pub nodes : rows.nodes ≡ n + length es
@@ -42,7 +42,7 @@ pub record AreUsers (n : ℕ) (es : List Edge) (count : ℕ) (rows : NodeLists) 
   pub none_ready : row rows n ≡ []
   pub each : (i j : ℕ) → from es n i (row rows j) ≡ count_by (is_between i j) (take count es)
 
--- Of the first numbers those that wait for nothing are added to the list of the ready ones, which was empty.
+-- The list of the ready ones has those of the first numbers that wait for nothing, and no others; each other list is as before.
 pub record AreReady (waits : List ℕ) (ready count : ℕ) (before rows : NodeLists) : Type 0 where
   pub lists : length rows.lists ≡ length before.lists
   pub nodes : rows.nodes ≡ before.nodes
@@ -50,8 +50,9 @@ pub record AreReady (waits : List ℕ) (ready count : ℕ) (before rows : NodeLi
   pub only : All (λ i. (i < count) × (get_or waits i 0 ≡ 0)) (row rows ready)
   pub all : (i : ℕ) → i < count → get_or waits i 0 ≡ 0 → Contains (row rows ready) i
 
--- The list of each number that isn't placed has the edges that lead to it. A number waits for its edges to numbers that aren't
--- placed and for those of its edges that are left to tell. The ready ones are those that aren't placed and wait for nothing.
+-- The lists of numbers have edges alone, and that of each number that isn't placed has all that lead to it. A number waits for its
+-- edges to numbers that aren't placed and for those of its edges that are left to tell; a placed one waits for nothing. The ready
+-- ones are those that aren't placed and wait for nothing.
 pub record Waits (g : List (List ℕ)) (es : List Edge) (placed : List Bool) (waits : List ℕ) (rows : NodeLists) (left : List ℕ) : Type 0 where
   pub lists : length rows.lists ≡ length g + 1
   pub nodes : rows.nodes ≡ length g + length es
