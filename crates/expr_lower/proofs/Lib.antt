@@ -5,5 +5,6 @@ pub mod MadeFacts
 pub mod NodeFacts
 pub mod OrderFacts
 pub mod OwnFacts
+pub mod PlaceFacts
 pub mod RoomFacts
 pub mod TypeFacts

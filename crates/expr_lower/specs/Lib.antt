@@ -1,4 +1,5 @@
 pub mod Lowered
 pub mod Nodes
+pub mod Numbered
 pub mod Places
 pub mod Running
