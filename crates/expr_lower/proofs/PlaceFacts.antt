@@ -93,17 +93,17 @@ states-room ds i h = omega (arith, h, states-few (map decl_of (take i ds)), leng
 
 -- One more definition has its place.
 pub one-more :
-    (ds : List Decl) (i : ℕ) (d : Decl) (next size : ℕ) (old new : List Place) (place : Place)
+    (ds : List Decl) (i : ℕ) (d : Decl) (next later : ℕ) (old new : List Place) (place : Place)
     → i < length ds → d ≡ get_or ds i d
     → old ≡ state_places 0 (map decl_of (take i ds)) → next ≡ sum_by (λ d. bytes_in d.ty d.behaviour) (map decl_of (take i ds))
-    → place ≡ record { ty = d.ty; state = state_cells next d.ty (behaviour_of d.behaviour); bound = None } → size ≡ bytes_in d.ty (behaviour_of d.behaviour) → new ≡ old ++ place ∷ []
-    → record { places : new ≡ state_places 0 (map decl_of (take (i + 1) ds)); next : next + size ≡ sum_by (λ d. bytes_in d.ty d.behaviour) (map decl_of (take (i + 1) ds)) }
-one-more ds i d next size old new place inside is places number made some pushed =
+    → place ≡ record { ty = d.ty; state = state_cells next d.ty (behaviour_of d.behaviour); bound = None } → later ≡ next + bytes_in d.ty (behaviour_of d.behaviour) → new ≡ old ++ place ∷ []
+    → record { places : new ≡ state_places 0 (map decl_of (take (i + 1) ds)); next : later ≡ sum_by (λ d. bytes_in d.ty d.behaviour) (map decl_of (take (i + 1) ds)) }
+one-more ds i d next later old new place inside is places number made some pushed =
     let row : map decl_of (take (i + 1) ds) ≡ map decl_of (take i ds) ++ decl_of d ∷ [] = ap (map decl_of) (take_more ds i d inside ∙ ap (λ (x : Decl). take i ds ++ x ∷ []) (sym is)) ∙ map-append decl_of (take i ds) (d ∷ []) in
     record {
       places = pushed ∙ ap (λ ps. ps ++ place ∷ []) places ∙ ap (λ (q : Place). state_places 0 (map decl_of (take i ds)) ++ q ∷ []) (made ∙ ap (λ k. record { ty = d.ty; state = state_cells k d.ty (behaviour_of d.behaviour); bound = None }) (number ∙ sym (zero-add _)))
           ∙ sym (states-append 0 (map decl_of (take i ds)) (decl_of d)) ∙ ap (state_places 0) (sym row);
-      next = ap (λ k. k + size) number ∙ ap (λ k. sum_by (λ (d : DeclTree). bytes_in d.ty d.behaviour) (map decl_of (take i ds)) + k) some
+      next = some ∙ ap (λ k. k + bytes_in d.ty (behaviour_of d.behaviour)) number
           ∙ sym (sum_by_push (λ (d : DeclTree). bytes_in d.ty d.behaviour) (map decl_of (take i ds)) (decl_of d)) ∙ ap (sum_by (λ (d : DeclTree). bytes_in d.ty d.behaviour)) (sym row);
     }
 

@@ -6,7 +6,7 @@ ghost use Rattle.expr_lower.specs.Nodes.{new_pair, size_of};
 ghost use Rattle.expr_lower.specs.Numbered.{AreStates, Binds, CanBind, state_cells};
 ghost use Rattle.expr_lower.specs.Places.{AreCellsOf};
 
-use crate::places::Place;
+use crate::places::{Place, give_out};
 use byte_ops::Pair;
 use causality::Checked;
 use frp_tree::{Behaviour, Decl, Ty};
@@ -21,36 +21,22 @@ pub struct Cells {
 }
 
 // The place of a definition that isn't bound, whose state gets the next cells where it is reactive.
-fn place_of(d: &Decl, next: u32) -> Place
-    requires { next ≤ 65534 }
-    ensures { result ≡ record { ty = d.now.ty; state = state_cells next d.now.ty (behaviour_of d.now.behaviour); bound = None } }
+fn place_of(next: &mut u32, d: &Decl) -> Place
+    requires { next.old ≤ 65534 }
+    ensures place { result ≡ record { ty = d.now.ty; state = state_cells next.old d.now.ty (behaviour_of d.now.behaviour); bound = None } }
+    ensures next { next.new ≡ next.old + bytes_in d.now.ty (behaviour_of d.now.behaviour) }
 {
-    let low = next as u16;
-    let high = if d.ty == Ty::U16 { low + 1 } else { low };
     let state = match &d.behaviour {
         Behaviour::Reactive {
             init: _,
             clauses: _,
-        } => Some(Pair { low, high }),
+        } => Some(give_out(next, d.ty == Ty::U16)),
         _ => None,
     };
     Place {
         ty: d.ty,
         state,
         bound: None,
-    }
-}
-
-// How many cells the state of a definition has.
-fn state_size(d: &Decl) -> u32
-    ensures { result ≡ bytes_in d.now.ty (behaviour_of d.now.behaviour) }
-{
-    match &d.behaviour {
-        Behaviour::Reactive {
-            init: _,
-            clauses: _,
-        } => { if d.ty == Ty::U16 { 2 } else { 1 } }
-        _ => 0,
     }
 }
 
@@ -66,8 +52,8 @@ impl Cells {
         };
         let decls = c.typed().program().decls.as_slice();
         for d in decls {
-            cells.places.push(place_of(d, cells.next))?;
-            cells.next += state_size(d);
+            let place = place_of(&mut cells.next, d);
+            cells.places.push(place)?;
         }
         Ok(cells)
     }
@@ -88,15 +74,7 @@ impl Cells {
         ensures places { self.new.places.items ≡ self.old.places.items }
         ensures kept { (p : ProgramTree) → AreCellsOf p self.old → AreCellsOf p self.new }
     {
-        let low = self.next as u16;
-        if wide {
-            self.next += 2;
-            let high = low + 1;
-            Pair { low, high }
-        } else {
-            self.next += 1;
-            Pair { low, high: low }
-        }
+        give_out(&mut self.next, wide)
     }
 
     /// The definition of this number, which isn't bound yet, has its value in these cells from now on. They are given out, and

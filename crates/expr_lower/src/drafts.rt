@@ -2,6 +2,7 @@
 ghost use Rattle.std.specs.Prelude.{◌≡◌, ◌+◌, ◌≤◌};
 ghost use Rattle.expr_lower.specs.Nodes.{new_pair, operand, size_of};
 
+use crate::places::give_out;
 use byte_ops::{Op, Pair};
 use frp_tree::List;
 
@@ -27,20 +28,7 @@ impl Draft {
         ensures next { self.new.next ≡ self.old.next + size_of wide }
         ensures to { result ≡ operand wide (new_pair wide self.old.next) }
     {
-        let low = self.next as u16;
-        if wide {
-            self.next += 2;
-            let high = low + 1;
-            Operand {
-                wide,
-                at: Pair { low, high },
-            }
-        } else {
-            self.next += 1;
-            Operand {
-                wide,
-                at: Pair { low, high: low },
-            }
-        }
+        let at = give_out(&mut self.next, wide);
+        Operand { wide, at }
     }
 }

@@ -6,22 +6,15 @@ use Rattle.expr_lower.specs.Numbered.{state_places}
 use Rattle.expr_lower.proofs.PlaceFacts.{all-states, all-taken, one-more, states-room}
 use Rattle.expr_lower.proofs.cells.Cells.of_states.Goals as goal
 
-pub place_of-requires : goal.place_of-requires
-place_of-requires c =
+pub place_of-place-requires : goal.place_of-place-requires
+place_of-place-requires c =
     let same = c.as_slice-decls.ensures ∙ ap (λ x. x.decls) (c.program.ensures ∙ ap (λ t. t.program) c.typed.ensures) in
     let few : length (map decl_of c.as_slice-decls.result.now) ≤ 128 = subst (λ ds. length (map decl_of ds) ≤ 128) (sym same) c.args.c.now.typed.formed.written.decls in
     omega (arith, c.loop-d.invariant.next, states-room c.as_slice-decls.result.now c.loop-d.d-index few)
 
-pub overflow_add-cells : goal.overflow_add-cells
-overflow_add-cells c =
-    let same = c.as_slice-decls.ensures ∙ ap (λ x. x.decls) (c.program.ensures ∙ ap (λ t. t.program) c.typed.ensures) in
-    let few : length (map decl_of c.as_slice-decls.result.now) ≤ 128 = subst (λ ds. length (map decl_of ds) ≤ 128) (sym same) c.args.c.now.typed.formed.written.decls in
-    let more = one-more c.as_slice-decls.result.now c.loop-d.d-index c.d-item.result c.loop-d.cells.next c.state_size.result c.loop-d.cells.places.items c.push.new.self.items c.place_of.result c.loop-d-test.true c.d-item.is c.loop-d.invariant.places c.loop-d.invariant.next c.place_of.ensures c.state_size.ensures c.in_ok-push.ensures.items in
-    omega (arith, more.next, states-room c.as_slice-decls.result.now (c.loop-d.d-index + 1) few)
-
 pub loop-d-preserved : goal.loop-d-preserved
 loop-d-preserved c =
-    let more = one-more c.as_slice-decls.result.now c.loop-d.d-index c.d-item.result c.loop-d.cells.next c.state_size.result c.loop-d.cells.places.items c.push.new.self.items c.place_of.result c.loop-d-test.true c.d-item.is c.loop-d.invariant.places c.loop-d.invariant.next c.place_of.ensures c.state_size.ensures c.in_ok-push.ensures.items in
+    let more = one-more c.as_slice-decls.result.now c.loop-d.d-index c.d-item.result c.loop-d.cells.next c.place_of-place.new.next c.loop-d.cells.places.items c.push.new.self.items c.place_of-place.result c.loop-d-test.true c.d-item.is c.loop-d.invariant.places c.loop-d.invariant.next c.place_of-place.ensures.place c.place_of-place.ensures.next c.in_ok-push.ensures.items in
     record { places = more.places; next = more.next }
 
 pub returns : goal.returns
