@@ -1,3 +1,4 @@
+pub mod BindLaws
 pub mod CheckedFacts
 pub mod LowerFacts
 pub mod LowerLaws
@@ -7,4 +8,5 @@ pub mod OrderFacts
 pub mod OwnFacts
 pub mod PlaceFacts
 pub mod RoomFacts
+pub mod StateLaws
 pub mod TypeFacts

@@ -1,8 +1,8 @@
 -- What is made of an expression does what its lowering promises.
 use Rattle.std.specs.List.{AllByRecursion, list_any}
 use Rattle.std.specs.Str.{bytes_eq}
-use Rattle.std.proofs.Common.{◌≡◌, ℕ, ◌+◌, ◌*◌, ◌/◌, ◌%◌, ◌^◌, ◌≤◌, ◌<◌, Bool, true, false, if◌then◌else◌, IsTrue, nat_le, nat_lt, ◌||◌, Option, Some, None, option_map, List, [], ◌∷◌, ◌++◌, length, sum_by, refl, sym, ap, subst, ◌∙◌, arith, rules}
-use Rattle.std.proofs.lemmas.Bool.{le-ltb, leb-true}
+use Rattle.std.proofs.Common.{◌≡◌, ℕ, ◌+◌, ◌*◌, ◌/◌, ◌%◌, ◌≤◌, ◌<◌, Bool, true, false, nat_le, nat_lt, ◌||◌, Option, Some, None, option_map, List, [], ◌∷◌, ◌++◌, sum_by, refl, sym, ap, subst, ◌∙◌, arith}
+use Rattle.std.proofs.lemmas.Bool.{le-ltb}
 use Rattle.std.proofs.lemmas.List.Folds.{list_any-append}
 use Rattle.std.proofs.lemmas.List.Sums.{count_by-le-length, sum_by-append}
 use Rattle.std.proofs.lemmas.List.{append-nil}
@@ -22,24 +22,24 @@ use Rattle.efrp_meaning.specs.Bounds.{binary_weight, by_width, result_bytes, una
 use Rattle.efrp_meaning.specs.Meaning.{evaluate, map_two, map_three, modulus_of}
 use Rattle.efrp_meaning.specs.Needs.{IsNamedIn, names_in}
 use Rattle.efrp_meaning.specs.States.{HasValue}
-use Rattle.efrp_meaning.specs.Types.{IsTyped, binary_type, if_type, literal_type, shift_type, type_of, type_of_name, unary_type, convert_type}
-use Rattle.efrp_meaning.specs.Values.{binary_value, convert_value, if_value, literal_number, modulus, number_of, shift_value, truth_number, unary_value}
-use Rattle.efrp_meaning.proofs.TypedValueLaws.{evaluate-typed, literal-typed}
+use Rattle.efrp_meaning.specs.Types.{IsTyped, binary_type, literal_type, shift_type, type_of, type_of_name, unary_type}
+use Rattle.efrp_meaning.specs.Values.{binary_value, convert_value, if_value, literal_number, modulus, shift_value, truth_number, unary_value}
+use Rattle.efrp_meaning.proofs.TypedValueLaws.{evaluate-typed}
 use Rattle.byte_ops.specs.declared.operations.Op.{Op}
 use Rattle.byte_ops.specs.declared.operations.Op.TheVariants as op
 use Rattle.byte_ops.specs.declared.operations.Pair.{Pair}
-use Rattle.byte_ops.specs.Cells.{AreIn, cells_of, held}
+use Rattle.byte_ops.specs.Cells.{cells_of, held}
 use Rattle.byte_ops.specs.Kinds.{IsOp}
 use Rattle.byte_ops.specs.Weights.{weight_of}
 use Rattle.expr_lower.specs.declared.drafts.Operand.{Operand}
 use Rattle.expr_lower.specs.Lowered.{HasNoLook, IsHeld, old_among}
-use Rattle.expr_lower.specs.Nodes.{Made, behind, into_new, made, new_pair, of_binary, of_convert, of_if, of_literal, of_shift, of_unary, operand, size_of}
+use Rattle.expr_lower.specs.Nodes.{Made, behind, into_new, made, new_pair, of_binary, of_if, of_literal, of_shift, of_unary, operand, size_of}
 use Rattle.expr_lower.specs.Places.{is_wide}
 use Rattle.expr_lower.specs.Running.{DoAll, GiveOut, HoldBytes}
 use Rattle.expr_lower.proofs.NodeFacts.{AreInside, done}
 use Rattle.expr_lower.proofs.OrderFacts.{between, ends-after, kinds-append, leaves, order-append}
 use Rattle.expr_lower.proofs.OwnFacts.{Own, own-binary, own-com, own-if, own-not, own-shift, weaker}
-use Rattle.expr_lower.proofs.TypeFacts.{AreBranches, AreOperands, BoolToByte, BoolToWide, ByteToWide, Converts, IsShifted, WideToByte, binary-operands, branches, converts, shift-operand, some-same, unary-operand}
+use Rattle.expr_lower.proofs.TypeFacts.{BoolToByte, BoolToWide, ByteToWide, Converts, WideToByte, binary-operands, branches, converts, shift-operand, some-same}
 
 -- A name of a part is one of the whole.
 pub any-left : (x : List ℕ) (xs ys : List (List ℕ)) → list_any (bytes_eq x) xs ≡ true → list_any (bytes_eq x) (xs ++ ys) ≡ true

@@ -1,6 +1,6 @@
 -- An expression of a program is lowered as promised, where its names have cells.
 use Rattle.std.specs.List.{AllByRecursion}
-use Rattle.std.proofs.Common.{◌≡◌, ℕ, ◌+◌, ◌≤◌, ◌<◌, Bool, true, false, nat_le, if◌then◌else◌, Option, Some, None, option_map, option_and_then, slice_get, List, [], ◌∷◌, ◌++◌, map, refl, sym, ap, subst, ◌∙◌, arith, zero, suc}
+use Rattle.std.proofs.Common.{◌≡◌, ℕ, ◌+◌, ◌≤◌, Bool, true, false, nat_le, if◌then◌else◌, Option, Some, None, option_map, option_and_then, slice_get, List, [], ◌∷◌, ◌++◌, refl, sym, ap, subst, ◌∙◌, arith, zero, suc}
 use Rattle.std.proofs.lemmas.Bool.{leb-true}
 use Rattle.std.proofs.lemmas.Option.{none-some, slice_get-map}
 use Rattle.std.proofs.lemmas.Slice.Eq.{bytes_eq-Decides}
@@ -12,21 +12,20 @@ use Rattle.frp_tree.specs.Tree.{Tree, Const, Name, Unary, Binary, Shift, If, Con
 use Rattle.efrp_meaning.specs.Bounds.{result_bytes}
 use Rattle.efrp_meaning.specs.Decls.{decl_named, is_table}
 use Rattle.efrp_meaning.specs.Needs.{IsNamedIn, names_in}
-use Rattle.efrp_meaning.specs.Types.{IsTyped, literal_type, type_of, type_of_name, value_type}
+use Rattle.efrp_meaning.specs.Types.{IsTyped, type_of, type_of_name, value_type}
 use Rattle.efrp_types.specs.Numbers.{decl_number}
 use Rattle.efrp_types.proofs.NumberLaws.{decl_number_agrees}
 use Rattle.byte_ops.specs.declared.operations.Op.{Op}
 use Rattle.byte_ops.specs.declared.operations.Pair.{Pair}
 use Rattle.expr_lower.specs.declared.cells.Cells.{Cells}
 use Rattle.expr_lower.specs.declared.drafts.Operand.{Operand}
-use Rattle.expr_lower.specs.declared.lowering.Lowered.{Lowered}
 use Rattle.expr_lower.specs.declared.places.Place.{Place}
 use Rattle.expr_lower.specs.Lowered.{HasNoLook, IsHeld, Lowers, NamesHaveCells, NamesHold}
-use Rattle.expr_lower.specs.Nodes.{CanLower, IsByte, Made, made, operand, operand_at, operand_of_name, operand_of_place, some_operand}
+use Rattle.expr_lower.specs.Nodes.{CanLower, made, operand, operand_at, operand_of_name, operand_of_place, some_operand}
 use Rattle.expr_lower.specs.Places.{AreCellsOf, FitIn, IsPlaced, cells_of_name, cells_of_place, first_of, is_wide}
-use Rattle.expr_lower.proofs.LowerFacts.{Holding, IsKnown, Knows, Sound, any-left, any-right, sound, unary-has}
+use Rattle.expr_lower.proofs.LowerFacts.{Holding, IsKnown, Knows, any-left, any-right, sound, unary-has}
 use Rattle.expr_lower.proofs.OrderFacts.{all-run, ends-after, leaves}
-use Rattle.expr_lower.proofs.TypeFacts.{Converts, BoolToByte, BoolToWide, ByteToWide, WideToByte, binary-operands, branches, converts, most_amount, shift-operand, unary-operand}
+use Rattle.expr_lower.proofs.TypeFacts.{Converts, BoolToByte, BoolToWide, ByteToWide, WideToByte, binary-operands, branches, converts, most_amount, shift-operand}
 
 -- The type of a name is that of its definition's place.
 named-type : (o : Option DeclTree) (u t : Ty) → option_and_then value_type o ≡ Some t → Some u ≡ option_map (λ (d : DeclTree). d.ty) o → u ≡ t

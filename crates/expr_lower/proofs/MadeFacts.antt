@@ -1,5 +1,5 @@
 -- What is made of an expression, put together as the code does it.
-use Rattle.std.proofs.Common.{◌≡◌, ℕ, ◌+◌, ◌≤◌, Bool, List, [], ◌∷◌, ◌++◌, refl, sym, ap, subst, ◌∙◌, arith, rules, append_assoc}
+use Rattle.std.proofs.Common.{ℕ, ◌≤◌, List, ◌++◌, ap, subst, ◌∙◌, arith, rules, append_assoc}
 use Rattle.std.proofs.Math.Nat.{le-add_right}
 use Rattle.frp_tree.specs.declared.syntax.Lit.{Lit}
 use Rattle.frp_tree.specs.declared.syntax.Lit.TheVariants as lit
@@ -9,10 +9,9 @@ use Rattle.frp_tree.specs.declared.syntax.UnOp.{UnOp}
 use Rattle.frp_tree.specs.declared.syntax.UnOp.TheVariants as unary
 use Rattle.frp_tree.specs.declared.syntax.BinOp.{BinOp}
 use Rattle.frp_tree.specs.Tree.{Tree, Const, Name, Unary, Binary, Shift, If, Convert, Look}
-use Rattle.byte_ops.specs.declared.operations.Op.{Op}
 use Rattle.expr_lower.specs.declared.drafts.Operand.{Operand}
 use Rattle.expr_lower.specs.declared.drafts.Draft.{Draft}
-use Rattle.expr_lower.specs.Nodes.{Adds, Made, behind, made, of_binary, of_convert, of_if, of_literal, of_shift, of_unary, size_of}
+use Rattle.expr_lower.specs.Nodes.{Adds, Made, behind, made, of_binary, of_convert, of_literal, of_unary, size_of}
 
 -- A node gives out no fewer cells than its operands.
 pub literal-grows : (next : ℕ) (l : Lit) → next ≤ (of_literal next l).next

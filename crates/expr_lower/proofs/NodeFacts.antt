@@ -1,23 +1,19 @@
 -- What the operations of one node leave: the value of its operator at what the cells of its operands hold.
-use Rattle.std.specs.List.{AllByRecursion}
 use Rattle.std.proofs.Math.Path.{fun_ext}
 use Rattle.std.proofs.lemmas.Bool.{false≢true}
 use Rattle.std.proofs.lemmas.Nat.{and_block, or_block, xor_block}
-use Rattle.std.proofs.Common.{◌≡◌, ◌≢◌, ℕ, ◌+◌, ◌-◌, ◌*◌, ◌/◌, ◌%◌, ◌≤◌, ◌<◌, Bool, true, false, IsTrue, bit_and, bit_or, bit_xor, List, [], ◌∷◌, ◌++◌, length, refl, sym, ap, subst, ◌∙◌, arith, rules}
-use Rattle.frp_tree.specs.declared.syntax.Side.{Side}
-use Rattle.frp_tree.specs.declared.syntax.UnOp.{UnOp}
-use Rattle.frp_tree.specs.declared.syntax.UnOp.TheVariants as unary
+use Rattle.std.proofs.Common.{◌≡◌, ℕ, ◌+◌, ◌-◌, ◌*◌, ◌<◌, Bool, true, false, IsTrue, bit_and, bit_or, bit_xor, [], ◌∷◌, sym, ap, subst, ◌∙◌, arith}
 use Rattle.frp_tree.specs.declared.syntax.BinOp.{BinOp}
 use Rattle.frp_tree.specs.declared.syntax.BinOp.TheVariants as binary
-use Rattle.efrp_meaning.specs.Values.{binary_value, if_value, shift_value, unary_value}
+use Rattle.efrp_meaning.specs.Values.{binary_value}
 use Rattle.byte_ops.specs.declared.operations.Op.{Op}
 use Rattle.byte_ops.specs.declared.operations.Op.TheVariants as op
 use Rattle.byte_ops.specs.declared.operations.Pair.{Pair}
-use Rattle.byte_ops.specs.Cells.{AreIn, held, modulus_of}
-use Rattle.byte_ops.specs.Kinds.{IsOp, is_bits, most_shifted}
+use Rattle.byte_ops.specs.Cells.{held, modulus_of}
+use Rattle.byte_ops.specs.Kinds.{is_bits}
 use Rattle.byte_ops.specs.Meaning.{HasBools, result_in, value_of}
-use Rattle.expr_lower.specs.Nodes.{bitwise, complements, new_pair, size_of}
-use Rattle.expr_lower.specs.Running.{DoAll, GiveOut, HoldBytes}
+use Rattle.expr_lower.specs.Nodes.{bitwise, complements, new_pair}
+use Rattle.expr_lower.specs.Running.{DoAll, HoldBytes}
 
 abbrev pub AreInside : ℕ → Pair → Type 0
 AreInside next pair = (pair.low < next) × (pair.high < next)

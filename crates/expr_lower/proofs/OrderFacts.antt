@@ -1,10 +1,10 @@
 -- Operations that give out cells one after another: that each can be run, and that they leave the cells before.
 use Rattle.std.specs.List.{AllByRecursion}
-use Rattle.std.proofs.Common.{◌≡◌, ◌≢◌, ℕ, ◌+◌, ◌≤◌, ◌<◌, List, [], ◌∷◌, ◌++◌, length, refl, sym, ap, subst, ◌∙◌, arith}
+use Rattle.std.proofs.Common.{◌≡◌, ℕ, ◌+◌, ◌≤◌, ◌<◌, List, [], ◌∷◌, ◌++◌, length, refl, sym, subst, ◌∙◌, arith}
 use Rattle.byte_ops.specs.declared.operations.Op.{Op}
 use Rattle.byte_ops.specs.Cells.{AreIn, AreNot, Differ}
 use Rattle.byte_ops.specs.Kinds.{IsOp}
-use Rattle.byte_ops.specs.Meaning.{Means, read_by, written_by}
+use Rattle.byte_ops.specs.Meaning.{read_by, written_by}
 use Rattle.expr_lower.specs.Running.{AreNext, CanRun, DoAll, GiveOut, HoldBytes}
 
 all-append : {A : Type 0} (P : A → Type 0) (xs ys : List A) → AllByRecursion P xs → AllByRecursion P ys → AllByRecursion P (xs ++ ys)

@@ -1,6 +1,6 @@
 -- Places where one is bound, and where the next ones are numbered.
 use Rattle.std.specs.List.{AllByRecursion}
-use Rattle.std.proofs.Common.{◌≡◌, ℕ, ◌+◌, ◌*◌, ◌≤◌, ◌<◌, Bool, true, false, Option, Some, None, List, [], ◌∷◌, ◌++◌, length, map, slice_get, sum_by, take, get_or, refl, sym, ap, subst, ◌∙◌, arith, zero, suc, zero-add}
+use Rattle.std.proofs.Common.{◌≡◌, ℕ, ◌+◌, ◌*◌, ◌≤◌, ◌<◌, Some, None, List, [], ◌∷◌, ◌++◌, length, map, slice_get, sum_by, take, get_or, refl, sym, ap, subst, ◌∙◌, arith, zero, suc, zero-add}
 use Rattle.std.proofs.Math.ListN.{set}
 use Rattle.std.proofs.Math.Seq.{take-length}
 use Rattle.std.proofs.lemmas.List.Sums.{sum_by-cons, sum_by_push}
@@ -10,13 +10,12 @@ use Rattle.std.proofs.lemmas.Option.{none-some, get_or_from_slice_get}
 use Rattle.frp_tree.specs.declared.syntax.Ty.{Ty}
 use Rattle.frp_tree.specs.declared.syntax.Ty.TheVariants as ty
 use Rattle.frp_tree.specs.Tree.{BehaviourTree, Plain, Input, Table, Reactive, DeclTree, ProgramTree, behaviour_of, decl_of}
-use Rattle.efrp_meaning.specs.Bounds.{bytes_in, state_bytes, type_bytes}
+use Rattle.efrp_meaning.specs.Bounds.{bytes_in, state_bytes}
 use Rattle.byte_ops.specs.declared.operations.Pair.{Pair}
 use Rattle.expr_lower.specs.declared.cells.Cells.{Cells}
 use Rattle.expr_lower.specs.declared.places.Place.{Place}
-use Rattle.expr_lower.specs.Nodes.{new_pair, size_of}
 use Rattle.expr_lower.specs.Numbered.{AreStates, state_cells, state_places}
-use Rattle.expr_lower.specs.Places.{AreCellsOf, FitIn, IsPlaced, is_wide}
+use Rattle.expr_lower.specs.Places.{FitIn, IsPlaced}
 
 set-types : (places : List Place) (n : ℕ) (old new : Place) → slice_get places n ≡ Some old → new.ty ≡ old.ty → map (λ (x : Place). x.ty) (set places n new) ≡ map (λ (x : Place). x.ty) places
 set-types [] n old new e same = absurd (none-some old e)

@@ -1,5 +1,5 @@
 -- Where what is made of an expression has room, so have its parts; and what is returned of them is returned of it.
-use Rattle.std.proofs.Common.{◌≡◌, ℕ, ◌≤◌, List, [], ◌∷◌, ◌++◌, refl, sym, subst, arith, Result, Ok, Err, IfOk}
+use Rattle.std.proofs.Common.{◌≡◌, ℕ, ◌≤◌, List, sym, subst, arith, Result, Ok, Err, IfOk}
 use Rattle.std.specs.declared.alloc.AllocError.{AllocError}
 use Rattle.std.proofs.Math.Nat.{le-add_right}
 use Rattle.frp_tree.specs.declared.syntax.Ty.{Ty}
@@ -9,7 +9,7 @@ use Rattle.frp_tree.specs.declared.syntax.BinOp.{BinOp}
 use Rattle.frp_tree.specs.Tree.{Tree, Unary, Binary, Shift, If, Convert}
 use Rattle.expr_lower.specs.declared.drafts.Operand.{Operand}
 use Rattle.expr_lower.specs.declared.drafts.Draft.{Draft}
-use Rattle.expr_lower.specs.Nodes.{Adds, Made, behind, made, of_binary, of_convert, of_if, of_shift, of_unary, size_of}
+use Rattle.expr_lower.specs.Nodes.{Adds, Made, made, of_binary, of_convert, of_if, of_shift, of_unary, size_of}
 use Rattle.expr_lower.proofs.MadeFacts.{binary-grows, grows, one-added, three-added, two-added}
 
 module _ (names : List ℕ → Operand) where

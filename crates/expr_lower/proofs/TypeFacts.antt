@@ -8,10 +8,8 @@ use Rattle.frp_tree.specs.declared.syntax.Ty.TheVariants as ty
 use Rattle.frp_tree.specs.declared.syntax.UnOp.{UnOp}
 use Rattle.frp_tree.specs.declared.syntax.UnOp.TheVariants as unary
 use Rattle.frp_tree.specs.declared.syntax.BinOp.{BinOp}
-use Rattle.frp_tree.specs.declared.syntax.BinOp.TheVariants as binary
 use Rattle.efrp_meaning.specs.Types.{binary_type, common_type, convert_type, if_type, shift_type, unary_type}
 use Rattle.efrp_meaning.proofs.TypedValueLaws.{no_type}
-use Rattle.expr_lower.specs.Places.{is_wide}
 
 pub some-same : (s t : Ty) → Some s ≡ Some t → s ≡ t
 some-same s t e = cc

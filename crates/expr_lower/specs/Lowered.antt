@@ -1,14 +1,13 @@
 -- What an expression is lowered to.
-use Rattle.std.specs.Prelude.{◌≡◌, ℕ, ◌+◌, ◌*◌, ◌<◌, ◌≤◌, Bool, true, false, nat_lt, List, [], ◌∷◌, sum_by, count_by, Option, Some, None}
+use Rattle.std.specs.Prelude.{◌≡◌, ℕ, ◌+◌, ◌*◌, ◌<◌, ◌≤◌, false, nat_lt, List, [], ◌∷◌, sum_by, count_by, Option, Some}
 use Rattle.std.specs.List.{AllByRecursion}
 use Rattle.frp_tree.specs.declared.syntax.Ty.{Ty}
 use Rattle.frp_tree.specs.Tree.{Tree, Const, Name, Unary, Binary, Shift, If, Convert, Look, ProgramTree}
-use Rattle.efrp_meaning.specs.Types.{type_of, type_of_name}
+use Rattle.efrp_meaning.specs.Types.{type_of_name}
 use Rattle.efrp_meaning.specs.Needs.{IsNamedIn}
 use Rattle.efrp_meaning.specs.Meaning.{evaluate}
 use Rattle.efrp_meaning.specs.Values.{modulus}
 use Rattle.efrp_meaning.specs.Bounds.{result_bytes, weight}
-use Rattle.byte_ops.specs.declared.operations.Op.{Op}
 use Rattle.byte_ops.specs.declared.operations.Pair.{Pair}
 use Rattle.byte_ops.specs.Cells.{AreIn, cells_of, held}
 use Rattle.byte_ops.specs.Weights.{weight_of}

@@ -1,9 +1,9 @@
 -- The parts of an expression have room where it has, and what is added for each is added for it.
-use Rattle.std.proofs.Common.{◌≡◌, ◌≤◌, ap, sym, ◌∙◌, refl, rules, arith, ◌<◌}
+use Rattle.std.proofs.Common.{◌≡◌, ap, sym, ◌∙◌, rules, arith, ◌<◌}
 use Rattle.frp_tree.specs.Limits.{nodes}
 use Rattle.frp_tree.specs.Tree.{Binary, If, Unary, Shift, Convert, program_tree_of, tree_of}
 use Rattle.expr_lower.specs.Nodes.{operand_of_name, some_operand}
-use Rattle.expr_lower.proofs.RoomFacts.{unary-returns, shift-returns, convert-returns, binary-returns, if-returns, binary-first, binary-second, binary-last, if-first, if-second, if-third, if-last}
+use Rattle.expr_lower.proofs.RoomFacts.{unary-returns, shift-returns, convert-returns, binary-returns, if-returns, binary-first, binary-last, if-first, if-second, if-third, if-last}
 use Rattle.expr_lower.proofs.lowering.+put.Goals as goal
 
 pub put-requires-in-Binary : goal.put-requires-in-Binary

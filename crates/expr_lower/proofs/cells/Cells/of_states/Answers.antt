@@ -1,5 +1,5 @@
 -- One definition after another has its place, and there are numbers for all.
-use Rattle.std.proofs.Common.{◌≡◌, ◌≤◌, length, map, take, ap, sym, subst, ◌∙◌, arith, sum_by, ◌+◌}
+use Rattle.std.proofs.Common.{◌≤◌, length, map, ap, sym, subst, ◌∙◌, arith, sum_by}
 use Rattle.frp_tree.specs.Tree.{decl_of, program_tree_of}
 use Rattle.efrp_meaning.specs.Bounds.{bytes_in}
 use Rattle.expr_lower.specs.Numbered.{state_places}
