@@ -24,7 +24,7 @@ pub struct Played {
 }
 
 /// Why a list of steps isn't played.
-#[derive(Clone, Copy, PartialEq, Eq, Debug, Drop)]
+#[derive(Clone, Copy, PartialEq, Eq, Debug)]
 pub enum ReplayFault {
     /// The step with this number, from 0 on, is the first that isn't allowed.
     NotAllowed(u32),

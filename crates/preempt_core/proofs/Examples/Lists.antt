@@ -47,3 +47,6 @@ less_urgent_may_not_be_taken = refl
 
 more_urgent_is_taken : answers_of (after (steps.Arrive 0 ∷ steps.Arrive 1 ∷ steps.Take ∷ [])) ≡ Some (answers.Latched 0 ∷ answers.Latched 1 ∷ answers.Took 1 ∷ [])
 more_urgent_is_taken = refl
+
+commits_are_counted : state_of (told (1 ∷ 2 ∷ []) (λ k state e. k ∷ e ∷ state) [] (reverse (until_the_return ++ steps.Redo ∷ steps.Commit ∷ []))) ≡ Some (1 ∷ 0 ∷ 0 ∷ 1 ∷ [])
+commits_are_counted = refl
