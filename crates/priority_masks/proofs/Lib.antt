@@ -1,0 +1,2 @@
+mod CountFacts
+mod EnableFacts
