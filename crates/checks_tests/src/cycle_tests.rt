@@ -6,7 +6,7 @@ use std::alloc::Global;
 use std::test::Fail;
 
 /// What the check for cycles answers for a text; `Memory` where its names or types have a fault.
-fn checked(alloc: Global, text: &str) -> Result<Result<Checked, CycleFault>, Fail> {
+pub(crate) fn checked(alloc: Global, text: &str) -> Result<Result<Checked, CycleFault>, Fail> {
     let program = parse(alloc, text.as_bytes())?;
     let names = match check_names(alloc, &program) {
         Ok(names) => names,

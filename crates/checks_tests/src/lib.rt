@@ -6,6 +6,8 @@ mod cycle_tests;
 #[cfg(test)]
 mod event_tests;
 #[cfg(test)]
+mod level_tests;
+#[cfg(test)]
 mod name_tests;
 #[cfg(test)]
 mod react_tests;
