@@ -1,2 +1,3 @@
 mod CountFacts
 mod EnableFacts
+pub mod LevelLaws

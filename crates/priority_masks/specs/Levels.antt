@@ -15,9 +15,13 @@ use Rattle.priority_masks.specs.declared.tables.Levels.{Levels}
 abbrev pub priorities_of : ProgramTree → List ℕ
 priorities_of p = map (λ (e : Event). e.priority) p.events
 
+-- The priority of the event with this number.
+abbrev pub priority_of : ProgramTree → ℕ → ℕ
+priority_of p event = slice_index (priorities_of p) event
+
 -- The level of the event with this number: how many distinct priorities are at most its own.
 abbrev pub level_of : ProgramTree → ℕ → ℕ
-level_of p event = distinct (filter (λ n. nat_le n (slice_index (priorities_of p) event)) (priorities_of p))
+level_of p event = distinct (filter (λ n. nat_le n (priority_of p event)) (priorities_of p))
 
 -- An event of this source has a level above this one.
 abbrev pub IsAbove : ProgramTree → ℕ → Source → Type 0

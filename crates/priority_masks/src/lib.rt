@@ -4,7 +4,9 @@
 #![tactic(auto)]
 
 mod counts;
+mod laws;
 mod levels;
 mod tables;
 
+pub use laws::levels_rise;
 pub use tables::{Enables, Levels, TooDeep};
