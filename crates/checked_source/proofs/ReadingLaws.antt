@@ -31,7 +31,7 @@ first-of-names p fault first = (first.0 ++ type_faults p, ap (λ fs. fs ++ type_
 pub first-of-types : (p : ProgramTree) (fault : CheckFault) → name_faults p ≡ [] → IsFirst fault (type_faults p) → IsFirst fault (check_faults p)
 first-of-types p fault none first = (first.0, ap (λ fs. fs ++ type_faults p) none ∙ first.1)
 
-no-first : (p : ProgramTree) (fault : CheckFault) → IsChecked p → ¬ IsFirst fault (check_faults p)
+pub no-first : (p : ProgramTree) (fault : CheckFault) → IsChecked p → ¬ IsFirst fault (check_faults p)
 no-first p fault checked first = let none = none-checked p checked in let is = first.1 in cc
 
 one-first : (fault other : CheckFault) (faults : List CheckFault) → IsFirst fault faults → IsFirst other faults → other ≡ fault

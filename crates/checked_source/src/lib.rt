@@ -2,7 +2,9 @@
 #![tactic(auto)]
 
 mod faults;
+mod laws;
 mod reading;
 
 pub use faults::SourceFault;
+pub use laws::passes_exactly;
 pub use reading::read;

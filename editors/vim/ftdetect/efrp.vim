@@ -1,0 +1,2 @@
+" Sources of efrp end in .frp.
+autocmd BufRead,BufNewFile *.frp setfiletype efrp
