@@ -1,8 +1,9 @@
 // The code of each kind of operation, run by the simulator over cells in four banks.
 
-ghost use Rattle.std.specs.Prelude.{◌≡◌, ◌<◌, IfOk, IfSome, IsTrue};
+ghost use Rattle.std.specs.Prelude.{◌≡◌, ◌<◌, IfOk, IfSome, IsTrue, nat_le};
 ghost use Rattle.std.specs.List.{AllByRecursion};
 ghost use Rattle.bank_alloc.specs.Needs.{bytes_of};
+ghost use Rattle.byte_ops.specs.Kinds.{most_shifted};
 ghost use Rattle.code_items.specs.Items.{ItemFits, OnceEach};
 ghost use Rattle.code_tests.specs.Operations.{is_op_on};
 
@@ -146,502 +147,247 @@ fn outcome(
     })
 }
 
-// So it does for operands at the edges of their ranges.
-fn agrees(alloc: Global, op: &Op) -> Result<bool, AllocError>
+// The first of these numbers, as A and B, at which the code doesn't do what the operation does; C is the same at each.
+fn fault_among(
+    alloc: Global,
+    op: &Op,
+    numbers: &[u16],
+    c: u8,
+) -> Result<Option<(u16, u16)>, AllocError>
     requires { IsTrue (is_op_on 352 op.now) }
 {
-    for a in [0, 1, 127, 128, 255, 256, 65535] {
-        for b in [0, 1, 127, 128, 255, 256, 65535] {
-            if outcome(alloc, op, Bank::Unknown, a, b, 1)?.is_none() {
-                return Ok(false);
+    for a in numbers {
+        for b in numbers {
+            if outcome(alloc, op, Bank::Unknown, *a, *b, c)?.is_none() {
+                return Ok(Some((*a, *b)));
             }
         }
     }
-    Ok(outcome(alloc, op, Bank::Known(0), 129, 200, 0)?.is_some())
+    Ok(None)
 }
 
-// And for bools.
-fn agrees_for_bools(alloc: Global, op: &Op) -> Result<bool, AllocError>
+fn fault_of_bools(alloc: Global, op: &Op) -> Result<Option<(u16, u16)>, AllocError>
     requires { IsTrue (is_op_on 352 op.now) }
 {
-    for a in [0, 1] {
-        for b in [0, 1] {
-            if outcome(alloc, op, Bank::Unknown, a, b, 0)?.is_none() {
-                return Ok(false);
-            }
+    fault_among(alloc, op, &[0, 1], 0)
+}
+
+// Numbers at the edges of their ranges, and code that is begun in bank 0.
+fn fault_of_numbers(alloc: Global, op: &Op) -> Result<Option<(u16, u16)>, AllocError>
+    requires { IsTrue (is_op_on 352 op.now) }
+{
+    if outcome(alloc, op, Bank::Known(0), 129, 200, 0)?.is_none() {
+        return Ok(Some((129, 200)));
+    }
+    fault_among(alloc, op, &[0, 1, 127, 128, 255, 256, 65535], 1)
+}
+
+// The operation of an operator on A and B. One on bits or on bools has bytes alone, and a comparison's result is one.
+fn operation(f: BinOp, wide: bool) -> Op
+    ensures { IsTrue (is_op_on 352 result) }
+{
+    let (to, a, b) = (TO, A, B);
+    match f {
+        BinOp::Add | BinOp::Sub => Op::Sum { f, wide, to, a, b },
+        BinOp::Mul | BinOp::Div | BinOp::Rem => Op::Product { f, wide, to, a, b },
+        BinOp::BitAnd | BinOp::BitOr | BinOp::BitXor => {
+            let (to, a, b) = (TO.low, A.low, B.low);
+            Op::Bits { f, to, a, b }
+        }
+        BinOp::And | BinOp::Or => {
+            let (to, a, b) = (TO.low, A.low, B.low);
+            Op::Logic { f, to, a, b }
+        }
+        BinOp::Eq | BinOp::Ne | BinOp::Lt | BinOp::Le | BinOp::Gt | BinOp::Ge => {
+            let to = TO.low;
+            Op::Compare { f, wide, to, a, b }
         }
     }
-    Ok(true)
 }
 
 #[test]
 fn moves_agree(rt: HostRuntime) -> Result<(), Fail> {
-    assert!(rt; agrees(rt.alloc(), &Op::Set { to: 300, k: 200 })?);
-    assert!(rt; agrees(rt.alloc(), &Op::Copy { to: 300, a: 100 })?);
-    assert!(rt; agrees(rt.alloc(), &Op::Com { to: 300, a: 100 })?);
-    Ok(())
-}
-
-#[test]
-fn bits_agree(rt: HostRuntime) -> Result<(), Fail> {
-    assert!(rt;
-        agrees(
-            rt.alloc(),
-            &Op::Bits {
-                f: BinOp::BitAnd,
-                to: 300,
-                a: 100,
-                b: 5
-            }
-        )?
+    assert_eq!(rt;
+        fault_of_numbers(rt.alloc(), &Op::Set { to: 300, k: 200 })?,
+        None
     );
-    assert!(rt;
-        agrees(
-            rt.alloc(),
-            &Op::Bits {
-                f: BinOp::BitOr,
-                to: 300,
-                a: 100,
-                b: 5
-            }
-        )?
+    assert_eq!(rt;
+        fault_of_numbers(rt.alloc(), &Op::Copy { to: 300, a: 100 })?,
+        None
     );
-    assert!(rt;
-        agrees(
-            rt.alloc(),
-            &Op::Bits {
-                f: BinOp::BitXor,
-                to: 300,
-                a: 100,
-                b: 5
-            }
-        )?
+    assert_eq!(rt;
+        fault_of_numbers(rt.alloc(), &Op::Com { to: 300, a: 100 })?,
+        None
     );
     Ok(())
 }
 
 #[test]
 fn bools_agree(rt: HostRuntime) -> Result<(), Fail> {
-    assert!(rt; agrees_for_bools(rt.alloc(), &Op::Not { to: 300, a: 100 })?);
-    assert!(rt;
-        agrees_for_bools(
-            rt.alloc(),
-            &Op::Logic {
-                f: BinOp::And,
-                to: 300,
-                a: 100,
-                b: 5
-            }
-        )?
+    assert_eq!(rt;
+        fault_of_bools(rt.alloc(), &Op::Not { to: 300, a: 100 })?,
+        None
     );
-    assert!(rt;
-        agrees_for_bools(
-            rt.alloc(),
-            &Op::Logic {
-                f: BinOp::Or,
-                to: 300,
-                a: 100,
-                b: 5
-            }
-        )?
-    );
+    for f in [BinOp::And, BinOp::Or] {
+        assert_eq!(rt;
+            fault_of_bools(rt.alloc(), &operation(f, false))?,
+            None,
+            "{f:?}"
+        );
+    }
     Ok(())
 }
 
-#[test]
-fn sums_agree(rt: HostRuntime) -> Result<(), Fail> {
-    assert!(rt;
-        agrees(
-            rt.alloc(),
-            &Op::Sum {
-                f: BinOp::Add,
-                wide: false,
-                to: TO,
-                a: A,
-                b: B
-            }
-        )?
-    );
-    assert!(rt;
-        agrees(
-            rt.alloc(),
-            &Op::Sum {
-                f: BinOp::Sub,
-                wide: false,
-                to: TO,
-                a: A,
-                b: B
-            }
-        )?
-    );
-    assert!(rt;
-        agrees(
-            rt.alloc(),
-            &Op::Sum {
-                f: BinOp::Add,
-                wide: true,
-                to: TO,
-                a: A,
-                b: B
-            }
-        )?
-    );
-    assert!(rt;
-        agrees(
-            rt.alloc(),
-            &Op::Sum {
-                f: BinOp::Sub,
-                wide: true,
-                to: TO,
-                a: A,
-                b: B
-            }
-        )?
-    );
-    Ok(())
-}
+// Operators on numbers, and whether they are tried on words.
+const OPERATORS: &[(&str, bool, &[BinOp])] = &[
+    (
+        "bits_agree",
+        false,
+        &[BinOp::BitAnd, BinOp::BitOr, BinOp::BitXor],
+    ),
+    ("sums_agree", false, &[BinOp::Add, BinOp::Sub]),
+    ("wide_sums_agree", true, &[BinOp::Add, BinOp::Sub]),
+    ("equals_agree", false, &[BinOp::Eq, BinOp::Ne]),
+    ("wide_equals_agree", true, &[BinOp::Eq, BinOp::Ne]),
+    (
+        "orders_agree",
+        false,
+        &[BinOp::Lt, BinOp::Le, BinOp::Gt, BinOp::Ge],
+    ),
+    (
+        "wide_orders_agree",
+        true,
+        &[BinOp::Lt, BinOp::Le, BinOp::Gt, BinOp::Ge],
+    ),
+    (
+        "products_agree",
+        false,
+        &[BinOp::Mul, BinOp::Div, BinOp::Rem],
+    ),
+    (
+        "wide_products_agree",
+        true,
+        &[BinOp::Mul, BinOp::Div, BinOp::Rem],
+    ),
+];
 
 #[test]
-fn equals_agree(rt: HostRuntime) -> Result<(), Fail> {
-    assert!(rt;
-        agrees(
-            rt.alloc(),
-            &Op::Compare {
-                f: BinOp::Eq,
-                wide: false,
-                to: 300,
-                a: A,
-                b: B
-            }
-        )?
-    );
-    assert!(rt;
-        agrees(
-            rt.alloc(),
-            &Op::Compare {
-                f: BinOp::Ne,
-                wide: true,
-                to: 300,
-                a: A,
-                b: B
-            }
-        )?
-    );
-    Ok(())
-}
-
-#[test]
-fn orders_agree(rt: HostRuntime) -> Result<(), Fail> {
-    assert!(rt;
-        agrees(
-            rt.alloc(),
-            &Op::Compare {
-                f: BinOp::Lt,
-                wide: true,
-                to: 300,
-                a: A,
-                b: B
-            }
-        )?
-    );
-    assert!(rt;
-        agrees(
-            rt.alloc(),
-            &Op::Compare {
-                f: BinOp::Le,
-                wide: false,
-                to: 300,
-                a: A,
-                b: B
-            }
-        )?
-    );
-    assert!(rt;
-        agrees(
-            rt.alloc(),
-            &Op::Compare {
-                f: BinOp::Gt,
-                wide: true,
-                to: 300,
-                a: A,
-                b: B
-            }
-        )?
-    );
-    assert!(rt;
-        agrees(
-            rt.alloc(),
-            &Op::Compare {
-                f: BinOp::Ge,
-                wide: true,
-                to: 300,
-                a: A,
-                b: B
-            }
-        )?
-    );
+fn operators_agree(rt: HostRuntime) -> Result<(), Fail> {
+    for (name, wide, operators) in OPERATORS {
+        for f in *operators {
+            let fault = fault_of_numbers(rt.alloc(), &operation(*f, *wide))?;
+            assert_eq!(rt; fault, None, "{name}: {f:?}");
+        }
+    }
     Ok(())
 }
 
 #[test]
 fn choices_agree(rt: HostRuntime) -> Result<(), Fail> {
-    assert!(rt;
-        agrees(
-            rt.alloc(),
-            &Op::Choose {
-                wide: false,
-                to: TO,
-                c: C,
-                a: A,
-                b: B
-            }
-        )?
-    );
-    assert!(rt;
-        agrees(
-            rt.alloc(),
-            &Op::Choose {
-                wide: true,
-                to: TO,
-                c: C,
-                a: A,
-                b: B
-            }
-        )?
-    );
+    for wide in [false, true] {
+        let choice = Op::Choose {
+            wide,
+            to: TO,
+            c: C,
+            a: A,
+            b: B,
+        };
+        assert_eq!(rt;
+            fault_of_numbers(rt.alloc(), &choice)?,
+            None,
+            "wide: {wide}"
+        );
+    }
     Ok(())
+}
+
+fn shift(side: Side, wide: bool, n: u8) -> Op
+    requires { IsTrue (nat_le n (most_shifted wide)) }
+    ensures { IsTrue (is_op_on 352 result) }
+{
+    Op::Shift {
+        side,
+        wide,
+        n,
+        to: TO,
+        a: A,
+    }
 }
 
 #[test]
 fn shifts_agree(rt: HostRuntime) -> Result<(), Fail> {
-    assert!(rt;
-        agrees(
-            rt.alloc(),
-            &Op::Shift {
-                side: Side::Right,
-                wide: false,
-                n: 3,
-                to: TO,
-                a: A
-            }
-        )?
+    assert_eq!(rt;
+        fault_of_numbers(rt.alloc(), &shift(Side::Right, false, 3))?,
+        None
     );
-    assert!(rt;
-        agrees(
-            rt.alloc(),
-            &Op::Shift {
-                side: Side::Right,
-                wide: true,
-                n: 5,
-                to: TO,
-                a: A
-            }
-        )?
+    assert_eq!(rt;
+        fault_of_numbers(rt.alloc(), &shift(Side::Right, true, 5))?,
+        None
     );
-    assert!(rt;
-        agrees(
-            rt.alloc(),
-            &Op::Shift {
-                side: Side::Left,
-                wide: true,
-                n: 12,
-                to: TO,
-                a: A
-            }
-        )?
+    assert_eq!(rt;
+        fault_of_numbers(rt.alloc(), &shift(Side::Left, true, 12))?,
+        None
     );
     Ok(())
 }
 
+// An operator, whether it is wide, A and B, and the bytes of the result.
+const RESULTS: &[(&str, BinOp, bool, u16, u16, (u8, u8))] = &[
+    (
+        "quotients_by_zero_are_known",
+        BinOp::Div,
+        false,
+        200,
+        0,
+        (255, 0xA5),
+    ),
+    (
+        "quotients_by_zero_are_known",
+        BinOp::Rem,
+        false,
+        200,
+        0,
+        (200, 0xA5),
+    ),
+    (
+        "quotients_are_known",
+        BinOp::Div,
+        false,
+        255,
+        129,
+        (1, 0xA5),
+    ),
+    (
+        "quotients_are_known",
+        BinOp::Rem,
+        false,
+        255,
+        129,
+        (126, 0xA5),
+    ),
+    (
+        "wide_results_are_known",
+        BinOp::Mul,
+        true,
+        65535,
+        65535,
+        (1, 0),
+    ),
+];
+
 #[test]
-fn products_agree(rt: HostRuntime) -> Result<(), Fail> {
-    assert!(rt;
-        agrees(
-            rt.alloc(),
-            &Op::Product {
-                f: BinOp::Mul,
-                wide: false,
-                to: TO,
-                a: A,
-                b: B
-            }
-        )?
-    );
-    assert!(rt;
-        agrees(
-            rt.alloc(),
-            &Op::Product {
-                f: BinOp::Div,
-                wide: false,
-                to: TO,
-                a: A,
-                b: B
-            }
-        )?
-    );
-    assert!(rt;
-        agrees(
-            rt.alloc(),
-            &Op::Product {
-                f: BinOp::Rem,
-                wide: false,
-                to: TO,
-                a: A,
-                b: B
-            }
-        )?
-    );
+fn results_are_known(rt: HostRuntime) -> Result<(), Fail> {
+    for (name, f, wide, a, b, result) in RESULTS {
+        let found = outcome(rt.alloc(), &operation(*f, *wide), Bank::Unknown, *a, *b, 0)?;
+        assert_eq!(rt; found, Some(*result), "{name}: {f:?}");
+    }
     Ok(())
 }
 
 #[test]
-fn wide_products_agree(rt: HostRuntime) -> Result<(), Fail> {
-    assert!(rt;
-        agrees(
-            rt.alloc(),
-            &Op::Product {
-                f: BinOp::Mul,
-                wide: true,
-                to: TO,
-                a: A,
-                b: B
-            }
-        )?
-    );
-    assert!(rt;
-        agrees(
-            rt.alloc(),
-            &Op::Product {
-                f: BinOp::Div,
-                wide: true,
-                to: TO,
-                a: A,
-                b: B
-            }
-        )?
-    );
-    assert!(rt;
-        agrees(
-            rt.alloc(),
-            &Op::Product {
-                f: BinOp::Rem,
-                wide: true,
-                to: TO,
-                a: A,
-                b: B
-            }
-        )?
-    );
-    Ok(())
-}
-
-#[test]
-fn quotients_by_zero_are_known(rt: HostRuntime) -> Result<(), Fail> {
-    assert!(rt;
-        outcome(
-            rt.alloc(),
-            &Op::Product {
-                f: BinOp::Div,
-                wide: false,
-                to: TO,
-                a: A,
-                b: B
-            },
-            Bank::Unknown,
-            200,
-            0,
-            0
-        )? == Some((255, 0xA5))
-    );
-    assert!(rt;
-        outcome(
-            rt.alloc(),
-            &Op::Product {
-                f: BinOp::Rem,
-                wide: false,
-                to: TO,
-                a: A,
-                b: B
-            },
-            Bank::Unknown,
-            200,
-            0,
-            0
-        )? == Some((200, 0xA5))
-    );
-    Ok(())
-}
-
-#[test]
-fn quotients_are_known(rt: HostRuntime) -> Result<(), Fail> {
-    assert!(rt;
-        outcome(
-            rt.alloc(),
-            &Op::Product {
-                f: BinOp::Div,
-                wide: false,
-                to: TO,
-                a: A,
-                b: B
-            },
-            Bank::Unknown,
-            255,
-            129,
-            0
-        )? == Some((1, 0xA5))
-    );
-    assert!(rt;
-        outcome(
-            rt.alloc(),
-            &Op::Product {
-                f: BinOp::Rem,
-                wide: false,
-                to: TO,
-                a: A,
-                b: B
-            },
-            Bank::Unknown,
-            255,
-            129,
-            0
-        )? == Some((126, 0xA5))
-    );
-    Ok(())
-}
-
-#[test]
-fn wide_results_are_known(rt: HostRuntime) -> Result<(), Fail> {
-    assert!(rt;
-        outcome(
-            rt.alloc(),
-            &Op::Product {
-                f: BinOp::Mul,
-                wide: true,
-                to: TO,
-                a: A,
-                b: B
-            },
-            Bank::Unknown,
-            65535,
-            65535,
-            0
-        )? == Some((1, 0))
-    );
-    assert!(rt;
-        outcome(
-            rt.alloc(),
-            &Op::Shift {
-                side: Side::Left,
-                wide: true,
-                n: 15,
-                to: TO,
-                a: A
-            },
-            Bank::Unknown,
-            1,
-            0,
-            0
-        )? == Some((0, 128))
-    );
+fn wide_shift_is_known(rt: HostRuntime) -> Result<(), Fail> {
+    let by_fifteen = shift(Side::Left, true, 15);
+    let found = outcome(rt.alloc(), &by_fifteen, Bank::Unknown, 1, 0, 0)?;
+    assert_eq!(rt; found, Some((0, 128)));
     Ok(())
 }
