@@ -207,33 +207,22 @@ fn operation(f: BinOp, wide: bool) -> Op
 
 #[test]
 fn moves_agree(rt: HostRuntime) -> Result<(), Fail> {
-    assert_eq!(rt;
-        fault_of_numbers(rt.alloc(), &Op::Set { to: 300, k: 200 })?,
-        None
-    );
-    assert_eq!(rt;
-        fault_of_numbers(rt.alloc(), &Op::Copy { to: 300, a: 100 })?,
-        None
-    );
-    assert_eq!(rt;
-        fault_of_numbers(rt.alloc(), &Op::Com { to: 300, a: 100 })?,
-        None
-    );
+    let set = fault_of_numbers(rt.alloc(), &Op::Set { to: 300, k: 200 })?;
+    assert_eq!(rt; set, None);
+    let copy = fault_of_numbers(rt.alloc(), &Op::Copy { to: 300, a: 100 })?;
+    assert_eq!(rt; copy, None);
+    let complement = fault_of_numbers(rt.alloc(), &Op::Com { to: 300, a: 100 })?;
+    assert_eq!(rt; complement, None);
     Ok(())
 }
 
 #[test]
 fn bools_agree(rt: HostRuntime) -> Result<(), Fail> {
-    assert_eq!(rt;
-        fault_of_bools(rt.alloc(), &Op::Not { to: 300, a: 100 })?,
-        None
-    );
+    let negation = fault_of_bools(rt.alloc(), &Op::Not { to: 300, a: 100 })?;
+    assert_eq!(rt; negation, None);
     for f in [BinOp::And, BinOp::Or] {
-        assert_eq!(rt;
-            fault_of_bools(rt.alloc(), &operation(f, false))?,
-            None,
-            "{f:?}"
-        );
+        let fault = fault_of_bools(rt.alloc(), &operation(f, false))?;
+        assert_eq!(rt; fault, None, "{f:?}");
     }
     Ok(())
 }
@@ -282,18 +271,18 @@ fn operators_agree(rt: HostRuntime) -> Result<(), Fail> {
     Ok(())
 }
 
+fn choice(wide: bool) -> Op
+    ensures { IsTrue (is_op_on 352 result) }
+{
+    let (to, c, a, b) = (TO, C, A, B);
+    Op::Choose { wide, to, c, a, b }
+}
+
 #[test]
 fn choices_agree(rt: HostRuntime) -> Result<(), Fail> {
     for wide in [false, true] {
-        let choice = Op::Choose {
-            wide,
-            to: TO,
-            c: C,
-            a: A,
-            b: B,
-        };
         assert_eq!(rt;
-            fault_of_numbers(rt.alloc(), &choice)?,
+            fault_of_numbers(rt.alloc(), &choice(wide))?,
             None,
             "wide: {wide}"
         );
@@ -316,76 +305,36 @@ fn shift(side: Side, wide: bool, n: u8) -> Op
 
 #[test]
 fn shifts_agree(rt: HostRuntime) -> Result<(), Fail> {
-    assert_eq!(rt;
-        fault_of_numbers(rt.alloc(), &shift(Side::Right, false, 3))?,
-        None
-    );
-    assert_eq!(rt;
-        fault_of_numbers(rt.alloc(), &shift(Side::Right, true, 5))?,
-        None
-    );
-    assert_eq!(rt;
-        fault_of_numbers(rt.alloc(), &shift(Side::Left, true, 12))?,
-        None
-    );
+    let right = fault_of_numbers(rt.alloc(), &shift(Side::Right, false, 3))?;
+    assert_eq!(rt; right, None);
+    let wide_right = fault_of_numbers(rt.alloc(), &shift(Side::Right, true, 5))?;
+    assert_eq!(rt; wide_right, None);
+    let wide_left = fault_of_numbers(rt.alloc(), &shift(Side::Left, true, 12))?;
+    assert_eq!(rt; wide_left, None);
     Ok(())
 }
 
-// An operator, whether it is wide, A and B, and the bytes of the result.
-const RESULTS: &[(&str, BinOp, bool, u16, u16, (u8, u8))] = &[
-    (
-        "quotients_by_zero_are_known",
-        BinOp::Div,
-        false,
-        200,
-        0,
-        (255, 0xA5),
-    ),
-    (
-        "quotients_by_zero_are_known",
-        BinOp::Rem,
-        false,
-        200,
-        0,
-        (200, 0xA5),
-    ),
-    (
-        "quotients_are_known",
-        BinOp::Div,
-        false,
-        255,
-        129,
-        (1, 0xA5),
-    ),
-    (
-        "quotients_are_known",
-        BinOp::Rem,
-        false,
-        255,
-        129,
-        (126, 0xA5),
-    ),
-    (
-        "wide_results_are_known",
-        BinOp::Mul,
-        true,
-        65535,
-        65535,
-        (1, 0),
-    ),
-];
-
 #[test]
-fn results_are_known(rt: HostRuntime) -> Result<(), Fail> {
-    for (name, f, wide, a, b, result) in RESULTS {
-        let found = outcome(rt.alloc(), &operation(*f, *wide), Bank::Unknown, *a, *b, 0)?;
-        assert_eq!(rt; found, Some(*result), "{name}: {f:?}");
+fn quotients_are_known(rt: HostRuntime) -> Result<(), Fail> {
+    // A, B, their quotient and its rest.
+    let cases = [
+        ("quotients_by_zero_are_known", 200, 0, 255, 200),
+        ("quotients_are_known", 255, 129, 1, 126),
+    ];
+    for (name, a, b, quotient, rest) in cases {
+        for (f, low) in [(BinOp::Div, quotient), (BinOp::Rem, rest)] {
+            let found = outcome(rt.alloc(), &operation(f, false), Bank::Unknown, a, b, 0)?;
+            assert_eq!(rt; found, Some((low, 0xA5)), "{name}: {f:?}");
+        }
     }
     Ok(())
 }
 
 #[test]
-fn wide_shift_is_known(rt: HostRuntime) -> Result<(), Fail> {
+fn wide_results_are_known(rt: HostRuntime) -> Result<(), Fail> {
+    let product = operation(BinOp::Mul, true);
+    let found = outcome(rt.alloc(), &product, Bank::Unknown, 65535, 65535, 0)?;
+    assert_eq!(rt; found, Some((1, 0)));
     let by_fifteen = shift(Side::Left, true, 15);
     let found = outcome(rt.alloc(), &by_fifteen, Bank::Unknown, 1, 0, 0)?;
     assert_eq!(rt; found, Some((0, 128)));

@@ -1,16 +1,25 @@
 // Places for bytes.
 
+ghost use Rattle.std.specs.Prelude.{◌≡◌, ◌+◌};
+ghost use Rattle.bank_alloc.specs.Needs.{bytes_of};
+
 use bank_alloc::{Needs, RamFault, place};
 use std::test::Fail;
 
-#[test]
-fn places_352_bytes(rt: HostRuntime) -> Result<(), Fail> {
-    let need = Needs {
-        states: 173,
+// The bytes of so many of the state, of one level, and of 173 of scratch.
+fn need_with(states: u32) -> Needs
+    ensures { bytes_of result ≡ states + 179 }
+{
+    Needs {
+        states,
         levels: 1,
         scratch: 173,
-    };
-    match place(&need) {
+    }
+}
+
+#[test]
+fn places_352_bytes(rt: HostRuntime) -> Result<(), Fail> {
+    match place(&need_with(173)) {
         Ok(places) => {
             assert!(rt; places.address(346) == 0x20);
             assert!(rt; places.address(0) == 0x26);
@@ -23,11 +32,6 @@ fn places_352_bytes(rt: HostRuntime) -> Result<(), Fail> {
 
 #[test]
 fn refuses_353_bytes(rt: HostRuntime) -> Result<(), Fail> {
-    let need = Needs {
-        states: 174,
-        levels: 1,
-        scratch: 173,
-    };
-    assert!(rt; place(&need) == Err(RamFault::Ram(353)));
+    assert!(rt; place(&need_with(174)) == Err(RamFault::Ram(353)));
     Ok(())
 }

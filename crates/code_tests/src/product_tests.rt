@@ -24,21 +24,11 @@ fn is_made(alloc: Global, f: BinOp, wide: bool, number: usize) -> Result<bool, A
 }
 
 #[test]
-fn products_are_made(rt: HostRuntime) -> Result<(), Fail> {
+fn products_quotients_and_rests_are_made(rt: HostRuntime) -> Result<(), Fail> {
     assert!(rt; is_made(rt.alloc(), BinOp::Mul, false, 34)?);
     assert!(rt; is_made(rt.alloc(), BinOp::Mul, true, 97)?);
-    Ok(())
-}
-
-#[test]
-fn quotients_are_made(rt: HostRuntime) -> Result<(), Fail> {
     assert!(rt; is_made(rt.alloc(), BinOp::Div, false, 80)?);
     assert!(rt; is_made(rt.alloc(), BinOp::Div, true, 368)?);
-    Ok(())
-}
-
-#[test]
-fn rests_are_made(rt: HostRuntime) -> Result<(), Fail> {
     assert!(rt; is_made(rt.alloc(), BinOp::Rem, false, 79)?);
     assert!(rt; is_made(rt.alloc(), BinOp::Rem, true, 366)?);
     Ok(())

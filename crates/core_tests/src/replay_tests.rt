@@ -13,15 +13,14 @@ use std::test::Fail;
 /// The checked program of a text; None where it has a fault.
 fn checked(alloc: Global, text: &str) -> Result<Option<Checked>, Fail> {
     let program = parse(alloc, text.as_bytes())?;
-    let names = match check_names(alloc, &program) {
-        Ok(names) => names,
-        Err(_fault) => return Ok(None),
+    let Ok(names) = check_names(alloc, &program) else {
+        return Ok(None);
     };
     spelled_is_well_formed();
-    match check_types(alloc, program, names) {
-        Ok(typed) => Ok(orders(alloc, typed).ok()),
-        Err(_fault) => Ok(None),
-    }
+    let Ok(typed) = check_types(alloc, program, names) else {
+        return Ok(None);
+    };
+    Ok(orders(alloc, typed).ok())
 }
 
 /// The replay of a program without inputs; None where it has one.
@@ -50,67 +49,66 @@ fn is_played(played: &Played, commits: &[u8], values: &[Value], ports: &[u8]) ->
         && played.ports.as_slice() == ports
 }
 
+/// The replay of the quotient over these steps; None where it has inputs or isn't checked.
+fn quotient_over(alloc: Global, steps: &[Step]) -> Result<Option<Result<Played, ReplayFault>>, Fail>
+    requires few { length steps.now < 2 ^ 32 }
+    requires commits { commit_steps steps.now ≤ 3 }
+{
+    match checked(alloc, QUOTIENT)? {
+        Some(c) => Ok(replay_without_inputs(alloc, &c, steps)),
+        None => Ok(None),
+    }
+}
+
+/// Why the quotient isn't played over these steps; None where it is.
+fn fault_over(alloc: Global, steps: &[Step]) -> Result<Option<ReplayFault>, Fail>
+    requires few { length steps.now < 2 ^ 32 }
+    requires commits { commit_steps steps.now ≤ 3 }
+{
+    match quotient_over(alloc, steps)? {
+        Some(Err(fault)) => Ok(Some(fault)),
+        _ => Ok(None),
+    }
+}
+
+/// A run of Low that is interrupted, and goes on to its commit as if it were not void.
+const WITHOUT_REDO: [Step; 10] = [
+    Step::Arrive(0),
+    Step::Take,
+    Step::Work,
+    Step::Arrive(1),
+    Step::Take,
+    Step::Commit,
+    Step::Resume,
+    Step::Commit,
+    Step::Commit,
+    Step::Resume,
+];
+
 #[test]
 fn begins_again_with_what_a_commit_left(rt: HostRuntime) -> Result<(), Fail> {
-    let steps = [
-        Step::Arrive(0),
-        Step::Take,
-        Step::Work,
-        Step::Arrive(1),
-        Step::Take,
-        Step::Commit,
-        Step::Resume,
-        Step::Redo,
-        Step::Commit,
-        Step::Resume,
-    ];
-    match checked(rt.alloc(), QUOTIENT)? {
-        Some(c) => match replay_without_inputs(rt.alloc(), &c, &steps) {
-            Some(Ok(played)) => {
-                assert!(rt; is_played(&played, &[1, 0], &[Value::U16(5), Value::U16(12000)], &[]));
-            }
-            _ => assert!(rt; false),
-        },
-        None => assert!(rt; false),
+    let mut steps = WITHOUT_REDO;
+    steps[7] = Step::Redo;
+    match quotient_over(rt.alloc(), &steps)? {
+        Some(Ok(played)) => {
+            assert!(rt; is_played(&played, &[1, 0], &[Value::U16(5), Value::U16(12000)], &[]));
+        }
+        _ => assert!(rt; false),
     }
     Ok(())
 }
 
 #[test]
 fn void_run_may_not_commit(rt: HostRuntime) -> Result<(), Fail> {
-    let steps = [
-        Step::Arrive(0),
-        Step::Take,
-        Step::Work,
-        Step::Arrive(1),
-        Step::Take,
-        Step::Commit,
-        Step::Resume,
-        Step::Commit,
-        Step::Commit,
-        Step::Resume,
-    ];
-    match checked(rt.alloc(), QUOTIENT)? {
-        Some(c) => match replay_without_inputs(rt.alloc(), &c, &steps) {
-            Some(Err(fault)) => assert!(rt; fault == ReplayFault::NotAllowed(7)),
-            _ => assert!(rt; false),
-        },
-        None => assert!(rt; false),
-    }
+    let fault = fault_over(rt.alloc(), &WITHOUT_REDO)?;
+    assert_eq!(rt; fault, Some(ReplayFault::NotAllowed(7)));
     Ok(())
 }
 
 #[test]
 fn event_that_there_is_not_may_not_arrive(rt: HostRuntime) -> Result<(), Fail> {
-    match checked(rt.alloc(), QUOTIENT)? {
-        Some(c) => {
-            match replay_without_inputs(rt.alloc(), &c, &[Step::Arrive(1), Step::Arrive(2)]) {
-                Some(Err(fault)) => assert!(rt; fault == ReplayFault::NotAllowed(1)),
-                _ => assert!(rt; false),
-            }
-        }
-        None => assert!(rt; false),
-    }
+    let fault = fault_over(rt.alloc(), &[Step::Arrive(1), Step::Arrive(2)])?;
+    assert_eq!(rt; fault, Some(ReplayFault::NotAllowed(1)));
     Ok(())
 }
 
