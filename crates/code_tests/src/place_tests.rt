@@ -19,14 +19,13 @@ fn need_with(states: u32) -> Needs
 
 #[test]
 fn places_352_bytes(rt: HostRuntime) -> Result<(), Fail> {
-    match place(&need_with(173)) {
-        Ok(places) => {
-            assert!(rt; places.address(346) == 0x20);
-            assert!(rt; places.address(0) == 0x26);
-            assert!(rt; places.address(345) == 0x1EF);
-        }
-        Err(_) => assert!(rt; false),
-    }
+    let Ok(places) = place(&need_with(173)) else {
+        assert!(rt; false);
+        return Ok(());
+    };
+    assert!(rt; places.address(346) == 0x20);
+    assert!(rt; places.address(0) == 0x26);
+    assert!(rt; places.address(345) == 0x1EF);
     Ok(())
 }
 
