@@ -27,6 +27,11 @@ fn next(chip: &mut Chip) -> Did {
     chip.step(0x000, false).did
 }
 
+// The instruction at this address has run, which is this word.
+fn ran(address: u16, word: u16) -> Did {
+    Did::Ran { address, word }
+}
+
 #[test]
 fn keeps_status_over_a_saving(rt: HostRuntime) -> Result<(), Fail> {
     // SWAPF STATUS,W; MOVWF 7Dh; SWAPF 7Dh,W; MOVWF STATUS.
@@ -45,13 +50,7 @@ fn keeps_status_over_a_saving(rt: HostRuntime) -> Result<(), Fail> {
 fn adds_to_status(rt: HostRuntime) -> Result<(), Fail> {
     // ADDWF STATUS,F.
     let mut chip = started(rt.alloc(), &[0x0783], 0xE3)?;
-    assert!(rt;
-        next(&mut chip)
-            == Did::Ran {
-                address: 0x0000,
-                word: 0x0783
-            }
-    );
+    assert!(rt; next(&mut chip) == ran(0x0000, 0x0783));
     assert!(rt; chip.regs().status() == 0x1F);
     Ok(())
 }
@@ -98,13 +97,7 @@ fn takes_an_interrupt_and_returns(rt: HostRuntime) -> Result<(), Fail> {
     assert!(rt; chip.pc() == 0x0004 && chip.depth() == 1 && chip.regs().read(0x00B) == 0x12);
     assert!(rt; chip.step(0x000, false).wrote == Some(0x00B));
     let merged = chip.step(0x000, false);
-    assert!(rt;
-        merged.did
-            == Did::Ran {
-                address: 0x0005,
-                word: 0x0009
-            }
-    );
+    assert!(rt; merged.did == ran(0x0005, 0x0009));
     assert!(rt; chip.pc() == 0x0002 && chip.depth() == 0 && chip.regs().read(0x00B) == 0x90);
     Ok(())
 }
@@ -134,13 +127,7 @@ fn writes_a_port_and_reads_its_pins(rt: HostRuntime) -> Result<(), Fail> {
     let _ = chip.step(0x000, false);
     assert!(rt; chip.w() == 0x3C);
     // Past the program stands 3FFFh, which is ADDLW FFh.
-    assert!(rt;
-        next(&mut chip)
-            == Did::Ran {
-                address: 0x0002,
-                word: 0x3FFF
-            }
-    );
+    assert!(rt; next(&mut chip) == ran(0x0002, 0x3FFF));
     assert!(rt; chip.w() == 0x3B);
     Ok(())
 }
@@ -159,12 +146,7 @@ fn late_at(alloc: Global, word: u16) -> Result<(Chip, Did), AllocError> {
 fn takes_an_interrupt_late(rt: HostRuntime) -> Result<(), Fail> {
     // GOTO 404h.
     let (mut chip, did) = late_at(rt.alloc(), 0x2C04)?;
-    assert!(rt;
-        did == Did::Ran {
-            address: 0x0002,
-            word: 0x2C04
-        }
-    );
+    assert!(rt; did == ran(0x0002, 0x2C04));
     assert!(rt; chip.due() && chip.pc() == 0x0404 && chip.depth() == 0);
     assert!(rt; next(&mut chip) == Did::Took);
     assert!(rt; !chip.due() && chip.pc() == 0x0004 && chip.depth() == 1);
