@@ -17,7 +17,7 @@ pub(crate) enum Found {
 pub(crate) type Ended = (u8, Found, Found);
 
 /// A call: its words, the source, where it is there, the numbers of the calls of files and of the sink that fail,
-/// whole HEX and MAP, and what it is to put.
+/// whole HEX and MAP, and the line that it is to put, without its end; an empty one where it is to put nothing.
 #[derive(Clone, Copy, Debug)]
 pub(crate) struct Call<'a> {
     pub words: &'a [&'a str],
@@ -61,6 +61,35 @@ fn left_under(files: &MemFiles, name: &str, whole: &str) -> Found {
     }
 }
 
+/// Whether just this text and the end of its last line were put; where it is empty, nothing.
+pub(crate) fn is_put(taken: &[u8], text: &str) -> bool {
+    match taken.split_last() {
+        Some((last, before)) => { *last == b'\n' && !text.is_empty() && before == text.as_bytes() }
+        None => text.is_empty(),
+    }
+}
+
+/// A row of a table: the text before its last bar, without a blank there, and behind it the line that is to be put.
+pub(crate) fn parts_of(row: &str) -> (&str, &str) {
+    match row.rsplit_once("| ") {
+        Some((text, put)) => (text.strip_suffix(' ').unwrap_or(text), put),
+        None => (row, ""),
+    }
+}
+
+/// What is made; made again where memory ran out, which this says on standard output. None where it runs out again.
+pub(crate) fn made<T, F: Fn() -> Result<T, AllocError>>(rt: &impl Print, make: F) -> Option<T>
+    requires { F.IsAlwaysCallable make }
+{
+    match make() {
+        Ok(it) => Some(it),
+        Err(AllocError) => {
+            let _ = println!(rt; "memory ran out");
+            make().ok()
+        }
+    }
+}
+
 // Makes a call, and tells how it ended and whether just this was put. An `Err` says that memory ran out before it.
 fn attempt(alloc: Global, call: &Call<'_>) -> Result<(Ended, bool), AllocError> {
     let words = texts(alloc, call.words)?;
@@ -75,7 +104,7 @@ fn attempt(alloc: Global, call: &Call<'_>) -> Result<(Ended, bool), AllocError> 
         left_under(&files, HEX, call.hex),
         left_under(&files, MAP, call.map),
     );
-    Ok((ended, out.taken() == call.put.as_bytes()))
+    Ok((ended, is_put(out.taken(), call.put)))
 }
 
 // What status 6 may leave: nothing, or HEX, or both.

@@ -1,6 +1,6 @@
 // Calls of `compile`: what they put and leave, where a file or the sink fails, and words that form no command.
 
-use crate::calls::{Call, Ended, Found, HEX, MAP, SOURCE, ends};
+use crate::calls::{Call, Ended, Found, HEX, MAP, SOURCE, ends, made};
 use std::alloc::{AllocError, Global};
 
 /// A counter of one event.
@@ -35,10 +35,10 @@ regs 086-086
 report depth 1 ram 1 words 16 settle 586
 ";
 
-const SUMMARY: &str = "words 16 of 308 ram 1 of 11 depth 1 of 8 settle 586 of 586\n";
+const SUMMARY: &str = "words 16 of 308 ram 1 of 11 depth 1 of 8 settle 586 of 586";
 
 const USAGE: &str =
-    "usage: efrp check SRC / compile SRC HEX MAP / run HEX MAP SCRIPT / model SRC EVENTS / big N HEX MAP\n";
+    "usage: efrp check SRC / compile SRC HEX MAP / run HEX MAP SCRIPT / model SRC EVENTS / big N HEX MAP";
 
 /// A program with two definitions, one of them with `later`.
 const TWO_DEFINITIONS: &str =
@@ -78,22 +78,22 @@ fn compiles_a_counter(rt: HostRuntime) {
 
 #[test]
 fn refuses_what_is_no_counter(rt: HostRuntime) {
-    let call = compile(Some(TWO_DEFINITIONS.as_bytes()), "refused: form\n");
+    let call = compile(Some(TWO_DEFINITIONS.as_bytes()), "refused: form");
     assert!(rt; ends(&rt, &call, (1, Found::Absent, Found::Absent)));
 }
 
 #[test]
 fn says_what_is_missing(rt: HostRuntime) {
-    let call = compile(None, "missing: b.frp\n");
+    let call = compile(None, "missing: b.frp");
     assert!(rt; ends(&rt, &call, (3, Found::Absent, Found::Absent)));
 }
 
 // The numbers of the call of files that fails, from 0 on, what a compile puts then, its status, and what stands under
 // the name of HEX.
 const FAILURES: &[(u32, &str, u8, Found)] = &[
-    (0, "read failed: b.frp\n", 4, Found::Absent),
-    (1, "write failed: b.hex\n", 5, Found::Absent),
-    (2, "write failed: b.map\n", 5, Found::Whole),
+    (0, "read failed: b.frp", 4, Found::Absent),
+    (1, "write failed: b.hex", 5, Found::Absent),
+    (2, "write failed: b.map", 5, Found::Whole),
 ];
 
 #[test]
@@ -152,17 +152,10 @@ fn answers_the_command_to_come_with_the_usage_line(rt: HostRuntime) {
 
 // Whether a counter that blanks make this long ends so.
 fn long_ends(rt: &(impl AllocGlobal + Print), length: usize, put: &str, want: Ended) -> bool {
-    let text = match padded(rt.alloc(), length) {
-        Ok(text) => text,
-        Err(AllocError) => {
-            let _ = println!(rt; "memory ran out");
-            let Ok(text) = padded(rt.alloc(), length) else {
-                return false;
-            };
-            text
-        }
-    };
-    ends(rt, &compile(Some(text.as_slice()), put), want)
+    match made(rt, || padded(rt.alloc(), length)) {
+        Some(text) => ends(rt, &compile(Some(text.as_slice()), put), want),
+        None => false,
+    }
 }
 
 #[test]
@@ -170,9 +163,9 @@ fn keeps_the_limits_on_lengths(rt: HostRuntime) {
     let refused = (1, Found::Absent, Found::Absent);
     let cases = [
         (65_536, SUMMARY, (0, Found::Whole, Found::Whole)),
-        (65_537, "refused: big 65536\n", refused),
-        (1_048_576, "refused: big 65536\n", refused),
-        (1_048_577, "refused: long b.frp\n", refused),
+        (65_537, "refused: big 65536", refused),
+        (1_048_576, "refused: big 65536", refused),
+        (1_048_577, "refused: long b.frp", refused),
     ];
     for (length, put, want) in cases {
         assert!(rt; long_ends(&rt, length, put, want), "{length}");

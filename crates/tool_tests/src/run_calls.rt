@@ -1,6 +1,6 @@
 // Calls of `run` over the three files in memory, and how they end.
 
-use crate::calls::{HEX, MAP, NO_MEMORY, numbers, texts};
+use crate::calls::{HEX, MAP, NO_MEMORY, is_put, numbers, texts};
 use edge_io::{MemFiles, MemSink};
 use frp_tool::efrp;
 use std::alloc::{AllocError, Global};
@@ -77,7 +77,7 @@ pub(crate) fn end_of(rt: &(impl AllocGlobal + Print), call: &Run<'_>) -> Option<
     }
 }
 
-/// Whether a call ends with this status, puts just this and changes no file.
+/// Whether a call ends with this status, puts just this text and the end of its last line, and changes no file.
 pub(crate) fn run_ends(
     rt: &(impl AllocGlobal + Print),
     call: &Run<'_>,
@@ -85,7 +85,7 @@ pub(crate) fn run_ends(
     put: &str,
 ) -> bool {
     match end_of(rt, call) {
-        Some(ended) => ended.status == status && ended.put.as_slice() == put.as_bytes(),
+        Some(ended) => ended.status == status && is_put(ended.put.as_slice(), put),
         None => false,
     }
 }

@@ -1,7 +1,7 @@
 // Calls of `run`: traces, late interrupts, what is refused, missing, too long or damaged, and where a file or the
 // sink fails.
 
-use crate::calls::{HEX, MAP, NO_MEMORY, texts};
+use crate::calls::{HEX, MAP, NO_MEMORY, is_put, made, parts_of, texts};
 use crate::compile_tests::{COUNTER_HEX, COUNTER_MAP};
 use crate::run_calls::{self, Run, end_of, run_ends};
 use edge_io::{SureFiles, SureSink};
@@ -13,23 +13,11 @@ use std::str;
 const SCRIPT: &str = "at 1000 INT\nat 2001 INT\nat 3000 INT\nsteps 4000\n";
 
 /// What they do.
-const TRACE: &str = "1000 latch INT
-1000 take
-1004 open Tick
-1005 port PORTB 01
-1005 commit Tick n=1
-2001 latch INT
-2001 take
-2005 open Tick
-2006 port PORTB 02
-2006 commit Tick n=2
-3000 latch INT
-3000 take
-3004 open Tick
-3005 port PORTB 03
-3005 commit Tick n=3
-end 4000 deepest 1 n=3
-";
+const TRACE: &str =
+    "1000 latch INT\n1000 take\n1004 open Tick\n1005 port PORTB 01\n1005 commit Tick n=1\n\
+    2001 latch INT\n2001 take\n2005 open Tick\n2006 port PORTB 02\n2006 commit Tick n=2\n\
+    3000 latch INT\n3000 take\n3004 open Tick\n3005 port PORTB 03\n3005 commit Tick n=3\n\
+    end 4000 deepest 1 n=3";
 
 /// A HEX file with one word, SLEEP.
 const SLEEP_HEX: &str = ":0200000063009B\n:00000001FF\n";
@@ -123,80 +111,127 @@ fn commits_the_same_where_interrupts_come_late(rt: HostRuntime) {
 #[test]
 fn traces_from_any_content_of_memory(rt: HostRuntime) {
     let call = counter("fill FF\nsteps 586\n");
-    assert!(rt; run_ends(&rt, &call, 0, "end 586 deepest 0 n=0\n"));
+    assert!(rt; run_ends(&rt, &call, 0, "end 586 deepest 0 n=0"));
 }
 
 #[test]
 fn says_which_line_of_the_map_is_faulty(rt: HostRuntime) {
     let call = files(COUNTER_HEX, "efrp map 2\n", "steps 9\n");
-    assert!(rt; run_ends(&rt, &call, 1, "refused: map 1\n"));
+    assert!(rt; run_ends(&rt, &call, 1, "refused: map 1"));
 }
+
+/// Scripts, each with the line that is told of it.
+const FAULTY_SCRIPTS: &str = "\
+at 5 RB
+steps 9
+| refused: script 1 source
+--
+steps 9
+
+steps 9
+| refused: script 3 after
+--
+step 9
+| refused: script 1 line
+--
+steps 0
+| refused: script 1 number
+--
+at 5 INT INT
+steps 9
+| refused: script 1 twice
+--
+at 5 INT
+at 5 INT
+steps 9
+| refused: script 2 rising
+--
+at 5 INT
+| refused: script 2 nosteps
+--
+at 5 INT
+at 9 INT
+steps 9
+| refused: script 2 past
+--
+late
+steps 9
+| refused: script 1 line
+--
+pin 5 PORTX 00
+steps 9
+| refused: script 1 port
+--
+pin 5 PORTB 00
+pin 5 PORTB 01
+steps 9
+| refused: script 2 pintwice";
 
 #[test]
 fn says_what_is_wrong_with_the_script(rt: HostRuntime) {
-    let cases = [
-        ("at 5 RB\nsteps 9\n", "refused: script 1 source\n"),
-        ("steps 9\n\nsteps 9\n", "refused: script 3 after\n"),
-        ("step 9\n", "refused: script 1 line\n"),
-        ("steps 0\n", "refused: script 1 number\n"),
-        ("at 5 INT INT\nsteps 9\n", "refused: script 1 twice\n"),
-        (
-            "at 5 INT\nat 5 INT\nsteps 9\n",
-            "refused: script 2 rising\n",
-        ),
-        ("at 5 INT\n", "refused: script 2 nosteps\n"),
-        ("at 5 INT\nat 9 INT\nsteps 9\n", "refused: script 2 past\n"),
-        ("late\nsteps 9\n", "refused: script 1 line\n"),
-        ("pin 5 PORTX 00\nsteps 9\n", "refused: script 1 port\n"),
-        (
-            "pin 5 PORTB 00\npin 5 PORTB 01\nsteps 9\n",
-            "refused: script 2 pintwice\n",
-        ),
-    ];
-    for (script, put) in cases {
-        assert!(rt; run_ends(&rt, &counter(script), 1, put), "{script:?}");
+    for row in FAULTY_SCRIPTS.split("\n--\n") {
+        let (script, put) = parts_of(row);
+        assert!(rt; run_ends(&rt, &counter(script), 1, put), "{row}");
     }
 }
 
+/// HEX files, each with the line that is told of it.
+const FAULTY_HEX: &str = "\
+x
+| refused: hex 1 char
+--
+:00000001
+| refused: hex 1 length
+--
+:00000001FE
+| refused: hex 1 sum FE FF
+--
+:00000006FA
+| refused: hex 1 type 06
+--
+:020000040001F9
+| refused: hex 1 range
+--
+:0200000063009B
+
+:020000006301 9A
+| refused: hex 3 char
+--
+:0200000063009B
+
+:0200000063019A
+| refused: hex 3 clash 0001
+--
+
+| refused: hex no end
+--
+:00000001FF
+:00000001FF
+| refused: hex 2 after end";
+
 #[test]
 fn says_what_is_wrong_with_the_hex(rt: HostRuntime) {
-    let cases = [
-        ("x\n", "refused: hex 1 char\n"),
-        (":00000001\n", "refused: hex 1 length\n"),
-        (":00000001FE\n", "refused: hex 1 sum FE FF\n"),
-        (":00000006FA\n", "refused: hex 1 type 06\n"),
-        (":020000040001F9\n", "refused: hex 1 range\n"),
-        (
-            ":0200000063009B\n\n:020000006301 9A\n",
-            "refused: hex 3 char\n",
-        ),
-        (
-            ":0200000063009B\n\n:0200000063019A\n",
-            "refused: hex 3 clash 0001\n",
-        ),
-        ("\n", "refused: hex no end\n"),
-        (":00000001FF\n:00000001FF\n", "refused: hex 2 after end\n"),
-    ];
-    for (hex, put) in cases {
+    for row in FAULTY_HEX.split("\n--\n") {
+        let (hex, put) = parts_of(row);
         let call = files(hex, COUNTER_MAP, "steps 9\n");
-        assert!(rt; run_ends(&rt, &call, 1, put), "{hex:?}");
+        assert!(rt; run_ends(&rt, &call, 1, put), "{row}");
     }
 }
 
 #[test]
 fn says_where_the_chip_stops(rt: HostRuntime) {
     let sleep = files(SLEEP_HEX, COUNTER_MAP, "steps 9\n");
-    assert!(rt; run_ends(&rt, &sleep, 1, "refused: stop 0 0000 sleep\n"));
+    assert!(rt; run_ends(&rt, &sleep, 1, "refused: stop 0 0000 sleep"));
     let unknown = files(UNKNOWN_HEX, COUNTER_MAP, "at 0 INT\nsteps 9\n");
-    assert!(rt; run_ends(&rt, &unknown, 1, "0 latch INT\nrefused: stop 0 0000 word\n"));
+    assert!(rt; run_ends(&rt, &unknown, 1, "0 latch INT\nrefused: stop 0 0000 word"));
 }
 
 #[test]
 fn tests_hex_first_then_the_map_then_the_script(rt: HostRuntime) {
     let cases = [
-        ("x\n", "x\n", "refused: hex 1 char\n"),
-        (COUNTER_HEX, "x\n", "refused: map 1\n"),
-        (SLEEP_HEX, COUNTER_MAP, "refused: script 1 line\n"),
+        ("x\n", "x\n", "refused: hex 1 char"),
+        (COUNTER_HEX, "x\n", "refused: map 1"),
+        (SLEEP_HEX, COUNTER_MAP, "refused: script 1 line"),
     ];
     for (hex, map, put) in cases {
         assert!(rt; run_ends(&rt, &files(hex, map, "x\n"), 1, put), "{put}");
@@ -213,30 +248,27 @@ enum Part {
 
 // A run with this in place of one of its files.
 fn with<'a>(whole: Run<'a>, part: Part, bytes: Option<&'a [u8]>) -> Run<'a> {
+    let mut run = whole;
     match part {
-        Part::Hex => Run {
-            hex: bytes,
-            ..whole
-        },
-        Part::Map => Run {
-            map: bytes,
-            ..whole
-        },
-        Part::Script => Run {
-            script: bytes,
-            ..whole
-        },
+        Part::Hex => run.hex = bytes,
+        Part::Map => run.map = bytes,
+        Part::Script => run.script = bytes,
     }
+    run
+}
+
+// The parts, each with what is told of it.
+fn each_part(
+    hex: &'static str,
+    map: &'static str,
+    script: &'static str,
+) -> [(Part, &'static str); 3] {
+    [(Part::Hex, hex), (Part::Map, map), (Part::Script, script)]
 }
 
 #[test]
 fn says_what_is_missing(rt: HostRuntime) {
-    let cases = [
-        (Part::Hex, "missing: b.hex\n"),
-        (Part::Map, "missing: b.map\n"),
-        (Part::Script, "missing: b.script\n"),
-    ];
-    for (part, put) in cases {
+    for (part, put) in each_part("missing: b.hex", "missing: b.map", "missing: b.script") {
         let call = with(files("x\n", "x\n", "x\n"), part, None);
         assert!(rt; run_ends(&rt, &call, 3, put), "{put}");
     }
@@ -245,9 +277,9 @@ fn says_what_is_missing(rt: HostRuntime) {
 #[test]
 fn says_which_read_failed(rt: HostRuntime) {
     let cases = [
-        (0, "read failed: b.hex\n"),
-        (1, "read failed: b.map\n"),
-        (2, "read failed: b.script\n"),
+        (0, "read failed: b.hex"),
+        (1, "read failed: b.map"),
+        (2, "read failed: b.script"),
     ];
     for (number, put) in cases {
         let call = Run {
@@ -326,14 +358,7 @@ fn damage_is_answered(
 // again.
 fn answers_damage(rt: &(impl AllocGlobal + Print), part: Part, byte: Option<u8>) -> bool {
     for place in 0..text_of(part).len() {
-        let answered = match damage_is_answered(rt, part, place, byte) {
-            Ok(answered) => answered,
-            Err(AllocError) => {
-                let _ = println!(rt; "memory ran out");
-                matches!(damage_is_answered(rt, part, place, byte), Ok(true))
-            }
-        };
-        if !answered {
+        if made(rt, || damage_is_answered(rt, part, place, byte)) != Some(true) {
             return false;
         }
     }
@@ -362,32 +387,21 @@ fn blanks(alloc: Global, length: usize) -> Result<Vec<u8>, AllocError> {
 
 // Whether a file in this place is refused that is a byte too long.
 fn long_is_refused(rt: &(impl AllocGlobal + Print), part: Part, put: &str) -> bool {
-    let text = match blanks(rt.alloc(), 1_048_577) {
-        Ok(text) => text,
-        Err(AllocError) => {
-            let _ = println!(rt; "memory ran out");
-            let Ok(text) = blanks(rt.alloc(), 1_048_577) else {
-                return false;
-            };
-            text
-        }
+    let Some(text) = made(rt, || blanks(rt.alloc(), 1_048_577)) else {
+        return false;
     };
-    run_ends(
-        rt,
-        &with(counter(SHORT_SCRIPT), part, Some(text.as_slice())),
-        1,
-        put,
-    )
+    let bytes = Some(text.as_slice());
+    run_ends(rt, &with(counter(SHORT_SCRIPT), part, bytes), 1, put)
 }
 
 #[test]
 fn says_which_file_is_too_long(rt: HostRuntime) {
-    let cases = [
-        (Part::Hex, "refused: long b.hex\n"),
-        (Part::Map, "refused: long b.map\n"),
-        (Part::Script, "refused: long b.script\n"),
+    let [hex, map, script] = [
+        "refused: long b.hex",
+        "refused: long b.map",
+        "refused: long b.script",
     ];
-    for (part, put) in cases {
+    for (part, put) in each_part(hex, map, script) {
         assert!(rt; long_is_refused(&rt, part, put), "{put}");
     }
 }
@@ -404,15 +418,11 @@ fn is_traced_surely(alloc: Global) -> Result<bool, AllocError> {
     if status == NO_MEMORY {
         return Err(AllocError);
     }
-    Ok(status == 0 && out.taken() == TRACE.as_bytes())
+    Ok(status == 0 && is_put(out.taken(), TRACE))
 }
 
 #[test]
 fn traces_over_files_that_never_fail(rt: HostRuntime) {
-    if let Ok(traced) = is_traced_surely(rt.alloc()) {
-        assert!(rt; traced);
-    } else {
-        let _ = println!(rt; "memory ran out");
-        assert!(rt; is_traced_surely(rt.alloc()) == Ok(true));
-    }
+    let traced = made(&rt, || is_traced_surely(rt.alloc()));
+    assert!(rt; traced == Some(true));
 }

@@ -1,23 +1,47 @@
 // Sources that are refused: where a text breaks off, each limit, and programs of other forms.
 
-use crate::calls::{Found, ends};
+use crate::calls::{Found, ends, made, parts_of};
 use crate::compile_tests::compile;
 use std::alloc::{AllocError, Global};
 
-/// Pieces of a text, each some number of times, all this often, and what stands behind them.
-type Made<'a> = (&'a [(&'a str, usize)], usize, &'a str);
+/// A text in short: in its parts `PIECE`N` stands for N times the piece. They stand so often, and then the rest does.
+#[derive(Clone, Copy, Debug)]
+pub(crate) struct Short<'a> {
+    pub parts: &'a str,
+    pub times: usize,
+    pub rest: &'a str,
+}
 
-fn built(alloc: Global, made: &Made<'_>) -> Result<Vec<u8>, AllocError> {
-    let (pieces, times, behind) = *made;
-    let mut text = Vec::new(alloc);
+// Adds a piece so often; where that is no number a byte that stands in no source.
+fn add_pieces(text: &mut String, piece: &str, times: &str) -> Result<(), AllocError> {
+    let Ok(times) = times.parse::<usize>() else {
+        return text.push('`');
+    };
     for _ in 0..times {
-        for (piece, count) in pieces {
-            for _ in 0..*count {
-                text.extend_from_slice(piece.as_bytes())?;
-            }
+        text.push_str(piece)?;
+    }
+    Ok(())
+}
+
+fn add_parts(text: &mut String, parts: &str) -> Result<(), AllocError> {
+    let mut piece = "";
+    for (place, part) in parts.split('`').enumerate() {
+        match place % 3 {
+            0 => text.push_str(part)?,
+            1 => piece = part,
+            _ => add_pieces(text, piece, part)?,
         }
     }
-    text.extend_from_slice(behind.as_bytes())?;
+    Ok(())
+}
+
+/// The text in full.
+pub(crate) fn in_full(alloc: Global, short: Short<'_>) -> Result<String, AllocError> {
+    let mut text = String::new(alloc);
+    for _ in 0..short.times {
+        add_parts(&mut text, short.parts)?;
+    }
+    text.push_str(short.rest)?;
     Ok(text)
 }
 
@@ -30,232 +54,114 @@ fn is_refused(rt: &(impl AllocGlobal + Print), source: &[u8], put: &str) -> bool
     )
 }
 
-fn made_is_refused(rt: &(impl AllocGlobal + Print), made: &Made<'_>, put: &str) -> bool {
-    let text = match built(rt.alloc(), made) {
-        Ok(text) => text,
-        Err(AllocError) => {
-            let _ = println!(rt; "memory ran out");
-            let Ok(text) = built(rt.alloc(), made) else {
-                return false;
-            };
-            text
-        }
-    };
-    is_refused(rt, text.as_slice(), put)
+fn short_is_refused(rt: &(impl AllocGlobal + Print), short: Short<'_>, put: &str) -> bool {
+    match made(rt, || in_full(rt.alloc(), short)) {
+        Some(text) => is_refused(rt, text.as_bytes(), put),
+        None => false,
+    }
 }
 
-/// Sources, and what is told of each.
-const REFUSED: &[(&str, &str)] = &[
-    ("event @", "refused: byte 6\n"),
-    ("event Tick TMR1", "refused: unexpected 2\n"),
-    ("event Tick = INT", "refused: unexpected 4\n"),
-    (
-        "event abcdefghijklmnopqrstuvwxyz012345 = INT priority 1;",
-        "refused: big 6\n",
-    ),
-    ("let n : u8 = 1 ) ;", "refused: unexpected 6\n"),
-    ("", "refused: form\n"),
-    ("// nothing", "refused: form\n"),
-    (
-        "event Go = T0 priority 2; let x : u8 = init 1 in { Go => y + 1 later; }; let y : u8 = init 2 in { Go => x + x; };",
-        "refused: form\n",
-    ),
-];
+/// Sources, each with the line that is told of it.
+const REFUSED: &str = "\
+event @ | refused: byte 6
+event Tick TMR1 | refused: unexpected 2
+event Tick = INT | refused: unexpected 4
+event abcdefghijklmnopqrstuvwxyz012345 = INT priority 1; | refused: big 6
+let n : u8 = 1 ) ; | refused: unexpected 6
+| refused: form
+// nothing | refused: form
+event Go = T0 priority 2; let x : u8 = init 1 in { Go => y + 1 later; }; let y : u8 = init 2 in { Go => x + x; }; | refused: form";
 
 #[test]
 fn tells_why_a_source_is_refused(rt: HostRuntime) {
-    for (source, put) in REFUSED {
-        assert!(rt; is_refused(&rt, source.as_bytes(), put), "{source}");
+    for row in REFUSED.lines() {
+        let (source, put) = parts_of(row);
+        assert!(rt; is_refused(&rt, source.as_bytes(), put), "{row}");
     }
 }
 
-/// Sources at a limit and past it, and what is told of each.
-const LIMITS: &[(Made<'_>, &str)] = &[
-    ((&[(" ", 65_536)], 1, ""), "refused: form\n"),
-    ((&[(" ", 65_537)], 1, ""), "refused: big 65536\n"),
-    (
-        (
-            &[("let abcdefghijklmnopqrstuvwxyz01234 : u8 = 1;", 1)],
-            1,
-            "",
-        ),
-        "refused: form\n",
-    ),
-    (
-        (
-            &[("let abcdefghijklmnopqrstuvwxyz012345 : u8 = 1;", 1)],
-            1,
-            "",
-        ),
-        "refused: big 4\n",
-    ),
-    ((&[("let n : u16 = 65535w;", 1)], 1, ""), "refused: form\n"),
-    (
-        (&[("let n : u16 = 65536w;", 1)], 1, ""),
-        "refused: big 14\n",
-    ),
-    (
-        (&[("event A = INT priority 1;", 11)], 1, ""),
-        "refused: twice A\n",
-    ),
-    (
-        (&[("event A = INT priority 1;", 12)], 1, ""),
-        "refused: many events\n",
-    ),
-    ((&[("setup TRISB = 0;", 32)], 1, ""), "refused: form\n"),
-    (
-        (&[("setup TRISB = 0;", 33)], 1, ""),
-        "refused: many setups\n",
-    ),
-    ((&[("let n : u8 = 1;", 128)], 1, ""), "refused: twice n\n"),
-    (
-        (&[("let n : u8 = 1;", 129)], 1, ""),
-        "refused: many definitions\n",
-    ),
-    (
-        (&[("output PORTB = 1;", 5)], 1, ""),
-        "refused: output twice PORTB\n",
-    ),
-    (
-        (&[("output PORTB = 1;", 6)], 1, ""),
-        "refused: many outputs\n",
-    ),
-    (
-        (&[("let n : u8 = ~1", 1), (" + 1", 2_047)], 1, ";"),
-        "refused: form\n",
-    ),
-    (
-        (&[("let n : u8 = ~~1", 1), (" + 1", 2_047)], 1, ";"),
-        "refused: many nodes\n",
-    ),
-    (
-        (
-            &[("let t : u8 = table { 0", 1), (", 0", 255), (" };", 1)],
-            1,
-            "",
-        ),
-        "refused: form\n",
-    ),
-    (
-        (
-            &[("let t : u8 = table { 0", 1), (", 0", 256), (" };", 1)],
-            1,
-            "",
-        ),
-        "refused: many entries\n",
-    ),
-    (
-        (
-            &[("let t : u8 = table { 0", 1), (", 0", 255), (" };", 1)],
-            8,
-            "",
-        ),
-        "refused: twice t\n",
-    ),
-    (
-        (
-            &[("let t : u8 = table { 0", 1), (", 0", 255), (" };", 1)],
-            8,
-            "let t : u8 = table { 0 };",
-        ),
-        "refused: many entries\n",
-    ),
-    (
-        (
-            &[("let n : u8 = ", 1), ("(", 64), ("1", 1), (")", 64)],
-            1,
-            ";",
-        ),
-        "refused: form\n",
-    ),
-    (
-        (
-            &[("let n : u8 = ", 1), ("(", 65), ("1", 1), (")", 65)],
-            1,
-            ";",
-        ),
-        "refused: deep 69\n",
-    ),
-];
+/// Parts of sources at a limit and past it, each with the line that is told of it.
+const LIMITS: &str = "\
+` `65536` | refused: form
+` `65537` | refused: big 65536
+let abcdefghijklmnopqrstuvwxyz01234 : u8 = 1; | refused: form
+let abcdefghijklmnopqrstuvwxyz012345 : u8 = 1; | refused: big 4
+let n : u16 = 65535w; | refused: form
+let n : u16 = 65536w; | refused: big 14
+`event A = INT priority 1;`11` | refused: twice A
+`event A = INT priority 1;`12` | refused: many events
+`setup TRISB = 0;`32` | refused: form
+`setup TRISB = 0;`33` | refused: many setups
+`let n : u8 = 1;`128` | refused: twice n
+`let n : u8 = 1;`129` | refused: many definitions
+`output PORTB = 1;`5` | refused: output twice PORTB
+`output PORTB = 1;`6` | refused: many outputs
+let n : u8 = ~1` + 1`2047`; | refused: form
+let n : u8 = ~~1` + 1`2047`; | refused: many nodes
+let t : u8 = table { 0`, 0`255` }; | refused: form
+let t : u8 = table { 0`, 0`256` }; | refused: many entries
+let n : u8 = `(`64`1`)`64`; | refused: form
+let n : u8 = `(`65`1`)`65`; | refused: deep 69";
 
 #[test]
 fn keeps_each_limit(rt: HostRuntime) {
-    for (made, put) in LIMITS {
-        assert!(rt; made_is_refused(&rt, made, put), "{made:?}");
+    for row in LIMITS.lines() {
+        let (parts, put) = parts_of(row);
+        let short = Short {
+            parts,
+            times: 1,
+            rest: "",
+        };
+        assert!(rt; short_is_refused(&rt, short, put), "{row}");
     }
 }
 
-/// The tokens of a counter, and how many stand before each of its items.
-const TOKENS: &[&str] = &[
-    "event ",
-    "Tick ",
-    "= ",
-    "INT ",
-    "priority ",
-    "1 ",
-    "; ",
-    "setup ",
-    "TRISB ",
-    "= ",
-    "0 ",
-    "; ",
-    "let ",
-    "n ",
-    ": ",
-    "u8 ",
-    "= ",
-    "init ",
-    "0 ",
-    "in ",
-    "{ ",
-    "Tick ",
-    "=> ",
-    "n ",
-    "+ ",
-    "1 ",
-    "; ",
-    "} ",
-    "; ",
-    "output ",
-    "PORTB ",
-    "= ",
-    "n ",
-    "; ",
-];
+#[test]
+fn keeps_the_limit_on_entries_of_all_tables(rt: HostRuntime) {
+    for (rest, put) in [
+        ("", "refused: twice t"),
+        ("let t : u8 = table { 0 };", "refused: many entries"),
+    ] {
+        let short = Short {
+            parts: "let t : u8 = table { 0`, 0`255` };",
+            times: 8,
+            rest,
+        };
+        assert!(rt; short_is_refused(&rt, short, put), "{put}");
+    }
+}
+
+/// The tokens of a counter, each with a blank behind it, and how many stand before each of its items.
+const TOKENS: &str =
+    "event Tick = INT priority 1 ; setup TRISB = 0 ; let n : u8 = init 0 in { Tick => n + 1 ; } ; output PORTB = n ; ";
 
 const ITEMS: &[usize] = &[0, 7, 12, 29];
 
 // The text of so many tokens, and what is told of it.
 fn cut(alloc: Global, count: usize) -> Result<(Vec<u8>, String), AllocError> {
     let mut text = Vec::new(alloc);
-    for token in TOKENS.iter().take(count) {
+    for token in TOKENS.split_inclusive(' ').take(count) {
         text.extend_from_slice(token.as_bytes())?;
     }
     let put = if ITEMS.contains(&count) {
-        format!(in alloc; "refused: form\n")?
+        format!(in alloc; "refused: form")?
     } else {
-        format!(in alloc; "refused: unexpected {count}\n")?
+        format!(in alloc; "refused: unexpected {count}")?
     };
     Ok((text, put))
 }
 
 fn cut_is_refused(rt: &(impl AllocGlobal + Print), count: usize) -> bool {
-    let (text, put) = match cut(rt.alloc(), count) {
-        Ok(made) => made,
-        Err(AllocError) => {
-            let _ = println!(rt; "memory ran out");
-            let Ok(made) = cut(rt.alloc(), count) else {
-                return false;
-            };
-            made
-        }
-    };
-    is_refused(rt, text.as_slice(), put.as_str())
+    match made(rt, || cut(rt.alloc(), count)) {
+        Some((text, put)) => is_refused(rt, text.as_slice(), put.as_str()),
+        None => false,
+    }
 }
 
 #[test]
 fn tells_where_a_counter_was_cut(rt: HostRuntime) {
-    for count in 0..TOKENS.len() {
+    for count in 0..34 {
         assert!(rt; cut_is_refused(&rt, count), "{count}");
     }
+    assert_eq!(rt; TOKENS.split_inclusive(' ').count(), 34);
 }
