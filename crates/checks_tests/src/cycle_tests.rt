@@ -24,26 +24,25 @@ fn is_order(c: &Checked, event: u8, order: &[u8]) -> bool {
     (event as usize) < c.typed().program().events.len() && c.order(event) == order
 }
 
+/// Programs of one event, each behind the digits of the numbers of its order.
+const ORDERED: &str = "\
+01 | event Go = INT priority 1; let x : u8 = init 1 in { Go => y + 1 later; }; let y : u8 = init 2 in { Go => x + x; };
+0 | event Go = INT priority 1; let n : u8 = init 3 in { Go => n + n; };
+210 | event Go = INT priority 1; let a : u8 = b + c; let b : u8 = c; let c : u8 = 1;";
+
 #[test]
 fn orders_of_programs(rt: HostRuntime) -> Result<(), Fail> {
-    for (text, order) in [
-        (
-            "event Go = INT priority 1; let x : u8 = init 1 in { Go => y + 1 later; }; let y : u8 = init 2 in { Go => x + x; };",
-            "\x00\x01",
-        ),
-        (
-            "event Go = INT priority 1; let n : u8 = init 3 in { Go => n + n; };",
-            "\x00",
-        ),
-        (
-            "event Go = INT priority 1; let a : u8 = b + c; let b : u8 = c; let c : u8 = 1;",
-            "\x02\x01\x00",
-        ),
-    ] {
-        match checked(rt.alloc(), text)? {
-            Ok(c) => assert!(rt; is_order(&c, 0, order.as_bytes()), "{text}"),
-            Err(_fault) => assert!(rt; false, "{text}"),
+    for row in ORDERED.lines() {
+        let (digits, text) = row.split_once(" | ").unwrap_or(("", row));
+        let mut order = Vec::new(rt.alloc());
+        for digit in digits.bytes() {
+            order.push(digit.wrapping_sub(b'0'))?;
         }
+        let found = checked(rt.alloc(), text)?;
+        assert!(rt;
+            found.is_ok_and(|c| is_order(&c, 0, order.as_slice())),
+            "{row}"
+        );
     }
     Ok(())
 }
@@ -52,55 +51,40 @@ fn orders_of_programs(rt: HostRuntime) -> Result<(), Fail> {
 fn each_event_has_its_order(rt: HostRuntime) -> Result<(), Fail> {
     let text =
         "event A = INT priority 1; event B = T0 priority 2; let x : u8 = init 1 in { A => y; }; let y : u8 = init 2 in { B => x; };";
-    match checked(rt.alloc(), text)? {
-        Ok(c) => {
-            assert!(rt; is_order(&c, 0, &[1, 0]));
-            assert!(rt; is_order(&c, 1, &[0, 1]));
-            assert!(rt; !is_order(&c, 2, &[0, 1]));
-        }
-        Err(_fault) => assert!(rt; false),
-    }
+    let Ok(c) = checked(rt.alloc(), text)? else {
+        return Err(Fail::new("each event has an order"));
+    };
+    assert!(rt; is_order(&c, 0, &[1, 0]));
+    assert!(rt; is_order(&c, 1, &[0, 1]));
+    assert!(rt; !is_order(&c, 2, &[0, 1]));
     Ok(())
 }
 
-/// Whether the cycle is told of this event and this name.
-fn is_cycle(fault: &CycleFault, its_event: &str, its_name: &str) -> bool {
+/// Whether the cycle is told by these words, an event and a name.
+fn is_cycle(fault: &CycleFault, words: &str) -> bool {
     match fault {
         CycleFault::Cycle { event, name } => {
-            event.as_str() == its_event && name.as_str() == its_name
+            words.split_once(' ') == Some((event.as_str(), name.as_str()))
         }
         CycleFault::Memory => false,
     }
 }
 
+/// Programs with a cycle, each behind the event and the name that are told.
+const CYCLIC: &str = "\
+Go x | event Go = INT priority 1; let x : u8 = init 1 in { Go => y + 1; }; let y : u8 = init 2 in { Go => x + x; };
+Go x | event Go = INT priority 1; let n : u8 = m; let m : u8 = x; let x : u8 = init 1 in { Go => y + 1; }; let y : u8 = init 2 in { Go => x + x; };
+Go n | event Go = INT priority 1; let n : u8 = n + 1;
+A y | event A = INT priority 1; event B = T0 priority 2; let x : u8 = init 1 in { B => y; }; let y : u8 = init 2 in { A => z; B => x; }; let z : u8 = y;
+B x | event A = INT priority 1; event B = T0 priority 2; let x : u8 = init 1 in { B => y; }; let y : u8 = init 2 in { B => x; };";
+
 #[test]
 fn first_cycles(rt: HostRuntime) -> Result<(), Fail> {
-    for (text, event, name) in [
-        (
-            "event Go = INT priority 1; let x : u8 = init 1 in { Go => y + 1; }; let y : u8 = init 2 in { Go => x + x; };",
-            "Go",
-            "x",
-        ),
-        (
-            "event Go = INT priority 1; let n : u8 = m; let m : u8 = x; let x : u8 = init 1 in { Go => y + 1; }; let y : u8 = init 2 in { Go => x + x; };",
-            "Go",
-            "x",
-        ),
-        ("event Go = INT priority 1; let n : u8 = n + 1;", "Go", "n"),
-        (
-            "event A = INT priority 1; event B = T0 priority 2; let x : u8 = init 1 in { B => y; }; let y : u8 = init 2 in { A => z; B => x; }; let z : u8 = y;",
-            "A",
-            "y",
-        ),
-        (
-            "event A = INT priority 1; event B = T0 priority 2; let x : u8 = init 1 in { B => y; }; let y : u8 = init 2 in { B => x; };",
-            "B",
-            "x",
-        ),
-    ] {
+    for row in CYCLIC.lines() {
+        let (words, text) = row.split_once(" | ").unwrap_or((row, ""));
         match checked(rt.alloc(), text)? {
-            Err(fault) => assert!(rt; is_cycle(&fault, event, name), "{text}"),
-            Ok(_checked) => assert!(rt; false, "{text}"),
+            Err(fault) => assert!(rt; is_cycle(&fault, words), "{row}"),
+            Ok(_checked) => assert!(rt; false, "{row}"),
         }
     }
     Ok(())

@@ -53,38 +53,32 @@ fn is_too_deep(c: &Checked, count: u8) -> bool {
 
 #[test]
 fn eleven_events_on_eight_levels(rt: HostRuntime) -> Result<(), Fail> {
-    match checked(rt.alloc(), ELEVEN_EVENTS)? {
-        Ok(c) => {
-            assert!(rt; has_count(&c, 8));
-            assert!(rt; have_levels(&c, &[1, 2, 3, 4, 5, 6, 7, 8, 8, 8, 8]));
-            assert!(rt; has_enables(&c, 0, 0x30, 0xCF, 0x19));
-            assert!(rt; has_enables(&c, 7, 0, 0x01, 0x19));
-            assert!(rt; has_enables(&c, 8, 0, 0, 0));
-        }
-        Err(_fault) => assert!(rt; false),
-    }
+    let Ok(c) = checked(rt.alloc(), ELEVEN_EVENTS)? else {
+        return Err(Fail::new("eleven events pass the checks"));
+    };
+    assert!(rt; has_count(&c, 8));
+    assert!(rt; have_levels(&c, &[1, 2, 3, 4, 5, 6, 7, 8, 8, 8, 8]));
+    assert!(rt; has_enables(&c, 0, 0x30, 0xCF, 0x19));
+    assert!(rt; has_enables(&c, 7, 0, 0x01, 0x19));
+    assert!(rt; has_enables(&c, 8, 0, 0, 0));
     Ok(())
 }
 
 #[test]
 fn levels_have_no_gaps(rt: HostRuntime) -> Result<(), Fail> {
     let text = "event A = INT priority 11; event B = T0 priority 4; event C = EE priority 11;";
-    match checked(rt.alloc(), text)? {
-        Ok(c) => {
-            assert!(rt; has_count(&c, 2));
-            assert!(rt; have_levels(&c, &[2, 1, 2]));
-            assert!(rt; has_enables(&c, 1, 0x10, 0, 0x10));
-        }
-        Err(_fault) => assert!(rt; false),
-    }
+    let Ok(c) = checked(rt.alloc(), text)? else {
+        return Err(Fail::new("three events pass the checks"));
+    };
+    assert!(rt; has_count(&c, 2));
+    assert!(rt; have_levels(&c, &[2, 1, 2]));
+    assert!(rt; has_enables(&c, 1, 0x10, 0, 0x10));
     Ok(())
 }
 
 #[test]
 fn nine_priorities_are_too_many(rt: HostRuntime) -> Result<(), Fail> {
-    match checked(rt.alloc(), NINE_PRIORITIES)? {
-        Ok(c) => assert!(rt; is_too_deep(&c, 9)),
-        Err(_fault) => assert!(rt; false),
-    }
+    let found = checked(rt.alloc(), NINE_PRIORITIES)?;
+    assert!(rt; found.is_ok_and(|c| is_too_deep(&c, 9)));
     Ok(())
 }

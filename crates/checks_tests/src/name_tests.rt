@@ -3,7 +3,7 @@ use efrp_syntax::parse;
 use efrp_types::{CheckFault, check_names};
 use std::test::Fail;
 
-/// What the names of a text's program are refused with, as the kind of fault and the name that it tells.
+/// A fault, as the kind of fault and the name that it tells.
 fn told(fault: &CheckFault) -> (&str, &str) {
     match fault {
         CheckFault::Twice(name) => ("twice", name.as_str()),
@@ -27,51 +27,35 @@ fn told(fault: &CheckFault) -> (&str, &str) {
     }
 }
 
+/// Programs, each behind the kind of its first fault and the name that this tells.
+const FAULTY: &str = "\
+priority A | event A = INT priority 12;
+source RB | event A = RB priority 1;
+name m | let n : u8 = m;
+twice A | event A = INT priority 1; event A = RB priority 0;
+source twice INT | event A = INT priority 1; event B = INT priority 0;
+register PCL | setup PCL = 1; let n : u8 = m;
+register TRISB | let n : u8 = input TRISB;
+twice n | let n : u8 = m; let n : u8 = 1;
+twice A | event A = INT priority 1; let A : u8 = 1;
+output twice PORTB | output PORTB = 1; output PORTB = 2;
+event A | let n : u8 = init 0 in { A => 1; };
+clause twice A | event A = INT priority 1; let n : u8 = init 0 in { A => 1; A => 2; };
+name A | event A = INT priority 1; output PORTB = A;
+table t | let t : u8 = table { 1, 2 }; output PORTB = t;
+table n | let n : u8 = 1; output PORTB = n[0];
+name a | output PORTB = a + (if b then c else d);";
+
 #[test]
 fn first_faults(rt: HostRuntime) -> Result<(), Fail> {
-    for (text, kind, name) in [
-        ("event A = INT priority 12;", "priority", "A"),
-        ("event A = RB priority 1;", "source", "RB"),
-        ("let n : u8 = m;", "name", "m"),
-        (
-            "event A = INT priority 1; event A = RB priority 0;",
-            "twice",
-            "A",
-        ),
-        (
-            "event A = INT priority 1; event B = INT priority 0;",
-            "source twice",
-            "INT",
-        ),
-        ("setup PCL = 1; let n : u8 = m;", "register", "PCL"),
-        ("let n : u8 = input TRISB;", "register", "TRISB"),
-        ("let n : u8 = m; let n : u8 = 1;", "twice", "n"),
-        ("event A = INT priority 1; let A : u8 = 1;", "twice", "A"),
-        (
-            "output PORTB = 1; output PORTB = 2;",
-            "output twice",
-            "PORTB",
-        ),
-        ("let n : u8 = init 0 in { A => 1; };", "event", "A"),
-        (
-            "event A = INT priority 1; let n : u8 = init 0 in { A => 1; A => 2; };",
-            "clause twice",
-            "A",
-        ),
-        ("event A = INT priority 1; output PORTB = A;", "name", "A"),
-        (
-            "let t : u8 = table { 1, 2 }; output PORTB = t;",
-            "table",
-            "t",
-        ),
-        ("let n : u8 = 1; output PORTB = n[0];", "table", "n"),
-        ("output PORTB = a + (if b then c else d);", "name", "a"),
-    ] {
+    for row in FAULTY.lines() {
+        let (words, text) = row.split_once(" | ").unwrap_or((row, ""));
         let program = parse(rt.alloc(), text.as_bytes())?;
-        match check_names(rt.alloc(), &program) {
-            Ok(_names) => assert!(rt; false, "{text}"),
-            Err(fault) => assert!(rt; told(&fault) == (kind, name), "{text}"),
-        }
+        let fault = check_names(rt.alloc(), &program).err();
+        assert!(rt;
+            fault.is_some_and(|it| Some(told(&it)) == words.rsplit_once(' ')),
+            "{row}"
+        );
     }
     Ok(())
 }

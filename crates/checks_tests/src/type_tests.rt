@@ -17,133 +17,119 @@ fn typed(alloc: Global, text: &str) -> Result<Result<Typed, CheckFault>, Fail> {
     Ok(check_types(alloc, program, names))
 }
 
-/// Whether the fault is of a type, with this owner, and this type wanted and that found.
-fn is_type_of(fault: &CheckFault, its_owner: &str, its_wanted: Ty, its_found: Ty) -> bool {
+/// How a type is written.
+fn word(ty: Ty) -> &'static str {
+    match ty {
+        Ty::Bool => "bool",
+        Ty::U8 => "u8",
+        Ty::U16 => "u16",
+    }
+}
+
+/// Whether these words tell the fault: its kind and whose it is, and of a type the one wanted and the one found.
+fn is_told(fault: &CheckFault, words: &str) -> bool {
+    let (kind, rest) = words.split_once(' ').unwrap_or((words, ""));
     match fault {
+        CheckFault::LiteralRange(owner) => kind == "literal" && rest == owner.as_str(),
+        CheckFault::BadShift(owner) => kind == "shift" && rest == owner.as_str(),
         CheckFault::TypeOf {
             owner,
             wanted,
             found,
-        } => owner.as_str() == its_owner && *wanted == its_wanted && *found == its_found,
+        } => match rest.split_once(' ') {
+            Some((name, types)) => {
+                kind == "type"
+                    && name == owner.as_str()
+                    && types.split_once(' ') == Some((word(*wanted), word(*found)))
+            }
+            None => false,
+        },
         _ => false,
     }
 }
 
+/// Whether the text of a row has a first fault, and it is the one that the row tells before the bar.
+fn is_faulty(alloc: Global, row: &str) -> Result<bool, Fail> {
+    let (words, text) = row.split_once(" | ").unwrap_or((row, ""));
+    match typed(alloc, text)? {
+        Ok(_typed) => Ok(false),
+        Err(fault) => Ok(is_told(&fault, words)),
+    }
+}
+
+const UNLIKE: &str = "\
+type x u8 bool | let x : u8 = ~true;
+type x bool u8 | let x : bool = !1;
+type x bool u16 | let x : bool = !1w;
+type x u8 bool | let x : u8 = true + 1;
+type x u8 bool | let x : u8 = 1 + true;
+type x u16 u8 | let x : u16 = 1w - 1;
+type x u8 u16 | let x : u8 = 2 * 2w;
+type x u8 u16 | let x : u8 = 2 / 2w;
+type x u8 u16 | let x : u8 = 2 % 2w;
+type x u8 u16 | let x : u8 = 2 & 2w;
+type x u16 u8 | let x : u16 = 2w ^ 2;
+type x u8 bool | let x : bool = true | false;
+type x u8 bool | let x : bool = true < false;
+type x u8 u16 | let x : bool = 1 <= 1w;
+type x u16 u8 | let x : bool = 1w > 1;
+type x u8 bool | let x : bool = 1 >= true;
+type x bool u8 | let x : bool = true == 1;
+type x u16 u8 | let x : bool = 1w != 1;
+type x bool u8 | let x : bool = 1 && true;
+type x bool u16 | let x : bool = true || 1w;
+type x u8 bool | let x : u8 = true << 1;
+type x bool u8 | let x : u8 = if 1 then 2 else 3;
+type x u8 u16 | let x : u8 = if true then 2 else 3w;
+type x u16 u8 | let x : u8 = u8(1);
+type x u8 u16 | let x : u16 = u16(1w);
+type x u8 u16 | let x : u8 = t[1w]; let t : u8 = table { 1 };
+type x u8 u16 | let x : u8 = t[0]; let t : u16 = table { 1w };
+type x u8 u16 | let x : u8 = 1w;
+type x u8 bool | let x : u8 = y; let y : bool = true;
+type x u16 u8 | let x : u16 = input PORTB;
+type x u16 u8 | let x : u16 = table { 1w, 2 };
+type x u8 bool | let x : u8 = init true in { };
+type x u8 u16 | event A = INT priority 1; let x : u8 = init 0 in { A => u16(x); };";
+
 #[test]
 fn unlike_types(rt: HostRuntime) -> Result<(), Fail> {
-    for (text, wanted, found) in [
-        ("let x : u8 = ~true;", Ty::U8, Ty::Bool),
-        ("let x : bool = !1;", Ty::Bool, Ty::U8),
-        ("let x : bool = !1w;", Ty::Bool, Ty::U16),
-        ("let x : u8 = true + 1;", Ty::U8, Ty::Bool),
-        ("let x : u8 = 1 + true;", Ty::U8, Ty::Bool),
-        ("let x : u16 = 1w - 1;", Ty::U16, Ty::U8),
-        ("let x : u8 = 2 * 2w;", Ty::U8, Ty::U16),
-        ("let x : u8 = 2 / 2w;", Ty::U8, Ty::U16),
-        ("let x : u8 = 2 % 2w;", Ty::U8, Ty::U16),
-        ("let x : u8 = 2 & 2w;", Ty::U8, Ty::U16),
-        ("let x : u16 = 2w ^ 2;", Ty::U16, Ty::U8),
-        ("let x : bool = true | false;", Ty::U8, Ty::Bool),
-        ("let x : bool = true < false;", Ty::U8, Ty::Bool),
-        ("let x : bool = 1 <= 1w;", Ty::U8, Ty::U16),
-        ("let x : bool = 1w > 1;", Ty::U16, Ty::U8),
-        ("let x : bool = 1 >= true;", Ty::U8, Ty::Bool),
-        ("let x : bool = true == 1;", Ty::Bool, Ty::U8),
-        ("let x : bool = 1w != 1;", Ty::U16, Ty::U8),
-        ("let x : bool = 1 && true;", Ty::Bool, Ty::U8),
-        ("let x : bool = true || 1w;", Ty::Bool, Ty::U16),
-        ("let x : u8 = true << 1;", Ty::U8, Ty::Bool),
-        ("let x : u8 = if 1 then 2 else 3;", Ty::Bool, Ty::U8),
-        ("let x : u8 = if true then 2 else 3w;", Ty::U8, Ty::U16),
-        ("let x : u8 = u8(1);", Ty::U16, Ty::U8),
-        ("let x : u16 = u16(1w);", Ty::U8, Ty::U16),
-        (
-            "let x : u8 = t[1w]; let t : u8 = table { 1 };",
-            Ty::U8,
-            Ty::U16,
-        ),
-        (
-            "let x : u8 = t[0]; let t : u16 = table { 1w };",
-            Ty::U8,
-            Ty::U16,
-        ),
-        ("let x : u8 = 1w;", Ty::U8, Ty::U16),
-        ("let x : u8 = y; let y : bool = true;", Ty::U8, Ty::Bool),
-        ("let x : u16 = input PORTB;", Ty::U16, Ty::U8),
-        ("let x : u16 = table { 1w, 2 };", Ty::U16, Ty::U8),
-        ("let x : u8 = init true in { };", Ty::U8, Ty::Bool),
-        (
-            "event A = INT priority 1; let x : u8 = init 0 in { A => u16(x); };",
-            Ty::U8,
-            Ty::U16,
-        ),
-    ] {
-        match typed(rt.alloc(), text)? {
-            Ok(_typed) => assert!(rt; false, "{text}"),
-            Err(fault) => assert!(rt; is_type_of(&fault, "x", wanted, found), "{text}"),
-        }
+    for row in UNLIKE.lines() {
+        assert!(rt; is_faulty(rt.alloc(), row)?, "{row}");
     }
     Ok(())
 }
 
-/// Whether the fault is of a literal, or else of a shift, with this owner.
-fn is_of_number(fault: &CheckFault, is_literal: bool, its_owner: &str) -> bool {
-    match fault {
-        CheckFault::LiteralRange(owner) => is_literal && owner.as_str() == its_owner,
-        CheckFault::BadShift(owner) => !is_literal && owner.as_str() == its_owner,
-        _ => false,
-    }
-}
+const OUT_OF_RANGE: &str = "\
+literal x | let x : u8 = 256;
+literal x | let x : u8 = init 65535 in { };
+literal x | let x : u8 = table { 255, 256 };
+literal PR2 | setup PR2 = 256;
+literal PORTC | output PORTC = 1 + 300;
+shift x | let x : u8 = 1 << 8;
+shift x | let x : u16 = 1w >> 16;
+shift x | let x : bool = 1 >> 65535 == 1w;";
 
 #[test]
 fn numbers_out_of_range(rt: HostRuntime) -> Result<(), Fail> {
-    for (text, is_literal, owner) in [
-        ("let x : u8 = 256;", true, "x"),
-        ("let x : u8 = init 65535 in { };", true, "x"),
-        ("let x : u8 = table { 255, 256 };", true, "x"),
-        ("setup PR2 = 256;", true, "PR2"),
-        ("output PORTC = 1 + 300;", true, "PORTC"),
-        ("let x : u8 = 1 << 8;", false, "x"),
-        ("let x : u16 = 1w >> 16;", false, "x"),
-        ("let x : bool = 1 >> 65535 == 1w;", false, "x"),
-    ] {
-        match typed(rt.alloc(), text)? {
-            Ok(_typed) => assert!(rt; false, "{text}"),
-            Err(fault) => assert!(rt; is_of_number(&fault, is_literal, owner), "{text}"),
-        }
+    for row in OUT_OF_RANGE.lines() {
+        assert!(rt; is_faulty(rt.alloc(), row)?, "{row}");
     }
     Ok(())
 }
 
 /// Two faults, of which the first in the order of the walk is told.
+const TWO_FAULTS: &str = "\
+type x u8 u16 | let x : u8 = 1w; output PORTB = true;
+type PORTB u8 bool | output PORTB = true; output PORTC = 1w;
+type x bool u8 | let x : u8 = !1 + 256;
+type x bool u8 | let x : u8 = if 1 then 2 else 1w;
+type x u8 u16 | event A = INT priority 1; let x : u8 = init 1w in { A => true; };";
+
 #[test]
 fn first_of_two(rt: HostRuntime) -> Result<(), Fail> {
-    for (text, owner, wanted, found) in [
-        (
-            "let x : u8 = 1w; output PORTB = true;",
-            "x",
-            Ty::U8,
-            Ty::U16,
-        ),
-        (
-            "output PORTB = true; output PORTC = 1w;",
-            "PORTB",
-            Ty::U8,
-            Ty::Bool,
-        ),
-        ("let x : u8 = !1 + 256;", "x", Ty::Bool, Ty::U8),
-        ("let x : u8 = if 1 then 2 else 1w;", "x", Ty::Bool, Ty::U8),
-        (
-            "event A = INT priority 1; let x : u8 = init 1w in { A => true; };",
-            "x",
-            Ty::U8,
-            Ty::U16,
-        ),
-    ] {
-        match typed(rt.alloc(), text)? {
-            Ok(_typed) => assert!(rt; false, "{text}"),
-            Err(fault) => assert!(rt; is_type_of(&fault, owner, wanted, found), "{text}"),
-        }
+    for row in TWO_FAULTS.lines() {
+        assert!(rt; is_faulty(rt.alloc(), row)?, "{row}");
     }
     Ok(())
 }

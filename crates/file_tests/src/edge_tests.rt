@@ -11,32 +11,13 @@ use std::{fs, io, process};
 
 fn numbers(alloc: Global, all: &[u32]) -> Result<List<u32>, AllocError> {
     let mut list = List::new(alloc);
-    for number in all {
-        list.push(*number)?;
-    }
+    list.extend_from_slice(all)?;
     Ok(list)
 }
 
-/// A standard output that is closed.
-struct Closed;
-
-impl Print for Closed {
-    fn print<D: Display + Drop>(&self, _value: D) -> io::Result<()> {
-        self.write_all(b"")
-    }
-
-    fn println<D: Display + Drop>(&self, _value: D) -> io::Result<()> {
-        self.write_all(b"")
-    }
-
-    fn write_all(&self, _bytes: &[u8]) -> io::Result<()> {
-        Err(io::Error::from(io::ErrorKind::BrokenPipe))
-    }
-}
-
-/// A standard output that takes just these bytes, in one call.
+/// A standard output that takes just these bytes, in one call; where there are none, a closed one.
 #[derive(Clone, Copy)]
-struct Expecting<'a>(&'a [u8]);
+struct Expecting<'a>(Option<&'a [u8]>);
 
 impl Print for Expecting<'_> {
     fn print<D: Display + Drop>(&self, _value: D) -> io::Result<()> {
@@ -48,10 +29,10 @@ impl Print for Expecting<'_> {
     }
 
     fn write_all(&self, bytes: &[u8]) -> io::Result<()> {
-        if bytes == self.0 {
-            Ok(())
-        } else {
-            Err(io::Error::from(io::ErrorKind::InvalidInput))
+        match self.0 {
+            Some(expected) if bytes == expected => Ok(()),
+            Some(_) => Err(io::Error::from(io::ErrorKind::InvalidInput)),
+            None => Err(io::Error::from(io::ErrorKind::BrokenPipe)),
         }
     }
 }
@@ -99,11 +80,10 @@ fn files_fail_at_their_numbers(rt: HostRuntime) -> Result<(), Fail> {
 
 #[test]
 fn sure_files_keep_what_is_written(rt: HostRuntime) -> Result<(), Fail> {
-    let alloc = rt.alloc();
-    let mut files = SureFiles::new(alloc);
-    files.place(alloc, "a", b"kept")?;
+    let mut files = SureFiles::new(rt.alloc());
+    files.place(rt.alloc(), "a", b"kept")?;
     assert_eq!(rt;
-        rewritten(&mut files, alloc, "b")?.as_slice(),
+        rewritten(&mut files, rt.alloc(), "b")?.as_slice(),
         b"then".as_slice()
     );
     assert_eq!(rt; files.file("a"), Some(b"kept".as_slice()));
@@ -126,7 +106,7 @@ fn sinks_take_bytes(rt: HostRuntime) -> Result<(), Fail> {
 #[test]
 fn standard_output_takes_bytes(rt: HostRuntime) -> Result<(), Fail> {
     greet(&mut OutSink::new(&rt), rt.alloc())?;
-    let closed = greet(&mut OutSink::new(&Closed), rt.alloc());
+    let closed = greet(&mut OutSink::new(&Expecting(None)), rt.alloc());
     assert_eq!(rt; closed, Err(PutFault::Failed));
     Ok(())
 }
@@ -135,8 +115,8 @@ fn standard_output_takes_bytes(rt: HostRuntime) -> Result<(), Fail> {
 fn standard_output_is_given_all_bytes(rt: HostRuntime) -> Result<(), Fail> {
     let alloc = rt.alloc();
     let text = b"good day\n";
-    OutSink::new(&Expecting(text)).put(alloc, text)?;
-    let other = OutSink::new(&Expecting(b"good")).put(alloc, text);
+    OutSink::new(&Expecting(Some(text))).put(alloc, text)?;
+    let other = OutSink::new(&Expecting(Some(b"good"))).put(alloc, text);
     assert_eq!(rt; other, Err(PutFault::Failed));
     Ok(())
 }
@@ -176,9 +156,9 @@ fn disk_files_are_written_and_read(rt: HostRuntime) -> Result<(), Fail> {
 #[test]
 fn a_file_is_no_folder(rt: HostRuntime) -> Result<(), Fail> {
     let alloc = rt.alloc();
+    let mut files = DiskFiles::new(&rt);
     let path = format!(in alloc; "/tmp/edge_io-file-{}", process::id(rt.process()))?;
     let inside = format!(in alloc; "{}/x", path.as_str())?;
-    let mut files = DiskFiles::new(&rt);
     files.write(alloc, path.as_str(), b"here")?;
     let told = faults(&mut files, alloc, "/no such folder/file", inside.as_str());
     assert_eq!(rt; told, FAULTS);

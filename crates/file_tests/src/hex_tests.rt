@@ -27,10 +27,11 @@ fn is_small(alloc: Global, text: &[u8]) -> Result<bool, HexFault>
 
 // The fault of a short text.
 fn fault(alloc: Global, text: &[u8]) -> Option<HexFault> {
-    if text.len() > 100 {
-        return None;
+    if text.len() <= 100 {
+        read(alloc, text).err()
+    } else {
+        None
     }
-    read(alloc, text).err()
 }
 
 #[test]

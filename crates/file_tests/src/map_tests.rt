@@ -97,13 +97,10 @@ fn reads_back(rt: HostRuntime) -> Result<(), Fail> {
 
 const SAMPLING: &[u8] = b"efrp map 1\n\
     event Tick INT 1 open 0041 commit 1A47\n\
-    state top u8 020\n\
-    output PORTB\n\
+    state top u8 020\noutput PORTB\n\
     sample Tick level 0012\n\
     sample Tick init 1FFF\n\
-    ready 002F\n\
-    regs 006-00B\n\
-    regs 020-07F\n\
+    ready 002F\nregs 006-00B\nregs 020-07F\n\
     report depth 1 ram 11 words 72 settle 586\n";
 
 #[test]

@@ -6,6 +6,19 @@ use map_file::{MapEvent, MapSample, MapState};
 use pic_isa::Source;
 use std::alloc::{AllocError, Global};
 
+pub(crate) fn sample(
+    alloc: Global,
+    event: &str,
+    input: &str,
+    at: u16,
+) -> Result<MapSample, AllocError>
+    ensures { IfOk result (λ s. s ≡ record { event = event.now; input = input.now; at = at }) }
+{
+    let event = Text::new(alloc, event)?;
+    let input = Text::new(alloc, input)?;
+    Ok(MapSample { event, input, at })
+}
+
 pub(crate) fn event(
     alloc: Global,
     name: &str,
@@ -48,17 +61,4 @@ pub(crate) fn state(
         low,
         high,
     })
-}
-
-pub(crate) fn sample(
-    alloc: Global,
-    event: &str,
-    input: &str,
-    at: u16,
-) -> Result<MapSample, AllocError>
-    ensures { IfOk result (λ s. s ≡ record { event = event.now; input = input.now; at = at }) }
-{
-    let event = Text::new(alloc, event)?;
-    let input = Text::new(alloc, input)?;
-    Ok(MapSample { event, input, at })
 }

@@ -44,78 +44,58 @@ fn fault(alloc: Global, text: &[u8]) -> Option<(u32, Cause)> {
     }
 }
 
-// Faulty texts by the cause of their first fault, each with the line in which it stands.
-const FAULTS: &[(Cause, &[(u32, &[u8])])] = &[
-    (Cause::AfterSteps, &[(3, b"steps 9\n# then\nnonsense")]),
+// Faulty texts, between bars, behind the cause of their first fault and the line in which it stands.
+const FAULTS: &[(Cause, u32, &[u8])] = &[
+    (Cause::AfterSteps, 3, b"steps 9\n# then\nnonsense"),
     (
         Cause::BadLine,
-        &[
-            (2, b"\nstep 9"),
-            (1, b"at x"),
-            (1, b"fill 0G"),
-            (2, b"fill 00\nfill 00"),
-            (1, b"late"),
-            (1, b"late even"),
-            (2, b"late odd\nlate odd"),
-            (2, b"late odd\nfill 00"),
-            (2, b"at 5 INT\nlate odd"),
-            (1, b"pin 5 PORTB 0"),
-        ],
+        1,
+        b"at x|fill 0G|late|late even|pin 5 PORTB 0",
+    ),
+    (
+        Cause::BadLine,
+        2,
+        b"\nstep 9|fill 00\nfill 00|late odd\nlate odd|late odd\nfill 00|at 5 INT\nlate odd",
     ),
     (
         Cause::BadNumber,
-        &[
-            (1, b"at 000000001 RB"),
-            (1, b"steps 10000001"),
-            (1, b"steps 9\r"),
-            (1, b"pin five PORTX 00"),
-        ],
+        1,
+        b"at 000000001 RB|steps 10000001|steps 9\r|pin five PORTX 00",
     ),
-    (Cause::UnknownSource, &[(1, b"at 5 INT INT \xFF")]),
-    (
-        Cause::UnknownPort,
-        &[(1, b"pin 5 PORTX 00"), (1, b"pin 5 PORT\xFF 00")],
-    ),
-    (Cause::SourceTwice, &[(1, b"at 5 T0 INT T0")]),
+    (Cause::UnknownSource, 1, b"at 5 INT INT \xFF"),
+    (Cause::UnknownPort, 1, b"pin 5 PORTX 00|pin 5 PORT\xFF 00"),
+    (Cause::SourceTwice, 1, b"at 5 T0 INT T0"),
     (
         Cause::NotRising,
-        &[
-            (2, b"at 5 INT\nat 5 T0"),
-            (2, b"at 5 INT\npin 4 PORTB 00"),
-            (2, b"pin 5 PORTB 00\nat 4 INT"),
-        ],
+        2,
+        b"at 5 INT\nat 5 T0|at 5 INT\npin 4 PORTB 00|pin 5 PORTB 00\nat 4 INT",
     ),
     (
         Cause::PinTwice,
-        &[(
-            4,
-            b"pin 5 PORTB 00\nat 5 INT\npin 5 PORTA 00\npin 5 PORTB 01",
-        )],
+        4,
+        b"pin 5 PORTB 00\nat 5 INT\npin 5 PORTA 00\npin 5 PORTB 01",
     ),
-    (Cause::NoSteps, &[(2, b"at 5 INT\n")]),
+    (Cause::NoSteps, 2, b"at 5 INT\n"),
+    (Cause::PastEnd, 2, b"at 5 INT\nat 6 T0\nat 7 T0\nsteps 6"),
     (
         Cause::PastEnd,
-        &[
-            (2, b"at 5 INT\nat 6 T0\nat 7 T0\nsteps 6"),
-            (
-                3,
-                b"pin 4 PORTB 00\npin 5 PORTB 00\npin 6 PORTB 00\nsteps 6",
-            ),
-        ],
+        3,
+        b"pin 4 PORTB 00\npin 5 PORTB 00\npin 6 PORTB 00\nsteps 6",
     ),
 ];
 
-// The number of the first of these texts, from 0 on, of which the first fault has another cause or line.
-fn other_fault(alloc: Global, cause: Cause, texts: &[(u32, &[u8])]) -> Option<usize> {
+// The number of the first of these texts, from 0 on, of which the first fault is another one.
+fn other_fault(alloc: Global, wanted: (u32, Cause), texts: &[u8]) -> Option<usize> {
     texts
-        .iter()
-        .position(|(line, text)| fault(alloc, text) != Some((*line, cause)))
+        .split(|byte| *byte == b'|')
+        .position(|text| fault(alloc, text) != Some(wanted))
 }
 
 #[test]
 fn each_cause_has_its_line(rt: HostRuntime) {
-    for (cause, texts) in FAULTS {
-        assert_eq!(rt; other_fault(rt.alloc(), *cause, texts), None, "{cause:?}");
+    for (cause, line, texts) in FAULTS {
+        let other = other_fault(rt.alloc(), (*line, *cause), texts);
+        assert_eq!(rt; other, None, "{cause:?} {line}");
     }
 }
 
@@ -155,9 +135,9 @@ fn map(alloc: Global) -> Result<Map, AllocError>
         outputs: List::new(alloc),
         samples: List::from_vec(vec![in alloc; level]?),
         ready: 11,
-        regs: List::new(alloc),
         depth: 1,
         ram: 3,
+        regs: List::new(alloc),
         words: 12,
         settle: 20,
     })
@@ -215,33 +195,29 @@ fn each_kind_of_line(rt: HostRuntime) -> Result<(), Fail> {
     expect_trace(&rt, &COUNTER, script, Ok(()), put)
 }
 
+// A tick at 4 and what it does, where interrupts are late.
+const LATE_ALWAYS: &[u8] = b"late always\nat 4 INT\nsteps 12\n";
+
+const TAKEN_LATER: &str =
+    "4 latch INT\n5 take\n6 open Go\n9 port PORTB 01\n9 commit Go n=1 w=1 b=0\nend 12 deepest 1 n=1 w=1 b=0\n";
+
+// The same where they are late at odd boundaries, of which 4 is none.
+const LATE_ODD: &[u8] = b"late odd\nat 4 INT\nsteps 12\n";
+
+const TAKEN_AT_ONCE: &str =
+    "4 latch INT\n4 take\n5 open Go\n8 port PORTB 01\n8 commit Go n=1 w=1 b=0\nend 12 deepest 1 n=1 w=1 b=0\n";
+
 #[test]
 fn a_late_interrupt_is_taken_one_step_later(rt: HostRuntime) -> Result<(), Fail> {
-    let always =
-        "4 latch INT\n5 take\n6 open Go\n9 port PORTB 01\n9 commit Go n=1 w=1 b=0\nend 12 deepest 1 n=1 w=1 b=0\n";
-    expect_trace(
-        &rt,
-        &COUNTER,
-        b"late always\nat 4 INT\nsteps 12\n",
-        Ok(()),
-        always,
-    )?;
-    let odd =
-        "4 latch INT\n4 take\n5 open Go\n8 port PORTB 01\n8 commit Go n=1 w=1 b=0\nend 12 deepest 1 n=1 w=1 b=0\n";
-    expect_trace(
-        &rt,
-        &COUNTER,
-        b"late odd\nat 4 INT\nsteps 12\n",
-        Ok(()),
-        odd,
-    )
+    expect_trace(&rt, &COUNTER, LATE_ALWAYS, Ok(()), TAKEN_LATER)?;
+    expect_trace(&rt, &COUNTER, LATE_ODD, Ok(()), TAKEN_AT_ONCE)
 }
 
 #[test]
 fn pins_change_and_samples_are_told(rt: HostRuntime) -> Result<(), Fail> {
-    let script = b"fill FF\npin 0 PORTB 10\npin 0 PORTA 3F\npin 3 PORTB A5\nsteps 6\n";
     let put =
         "1 sample Go level 10\n3 sample Go level A5\n5 sample Go level A5\nend 6 deepest 0 n=255 w=65535 b=255\n";
+    let script = b"fill FF\npin 0 PORTB 10\npin 0 PORTA 3F\npin 3 PORTB A5\nsteps 6\n";
     expect_trace(&rt, &READER, script, Ok(()), put)
 }
 
@@ -289,23 +265,16 @@ fn a_failing_put_leaves_a_prefix(rt: HostRuntime) -> Result<(), Fail> {
         put_trace(alloc, &WRITER, b"steps 600", &mut whole)?,
         Ok(())
     );
-    assert!(rt;
-        whole
-            .taken()
-            .starts_with(b"0 port PORTB 00\n2 port PORTB 00\n")
-    );
-    assert!(rt;
-        whole
-            .taken()
-            .ends_with(b"598 port PORTB 00\nend 600 deepest 0 n=0 w=0 b=0\n")
-    );
+    let text = whole.taken();
+    assert!(rt; text.starts_with(b"0 port PORTB 00\n2 port PORTB 00\n"));
+    assert!(rt; text.ends_with(b"598 port PORTB 00\nend 600 deepest 0 n=0 w=0 b=0\n"));
     for (number, is_first) in [(0, true), (1, false)] {
         let mut out = failing(alloc, number)?;
         let ended = put_trace(alloc, &WRITER, b"steps 600", &mut out)?;
         assert_eq!(rt; ended, Err(TraceFault::Failed), "{number}");
         assert_eq!(rt; out.taken().is_empty(), is_first, "{number}");
         assert_eq!(rt; out.taken().len() < 4096, is_first, "{number}");
-        assert!(rt; whole.taken().starts_with(out.taken()), "{number}");
+        assert!(rt; text.starts_with(out.taken()), "{number}");
     }
     Ok(())
 }

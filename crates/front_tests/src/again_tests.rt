@@ -1,7 +1,7 @@
 // Worked sources are read, printed and read again, and are the same programs.
 use crate::sources::{
     CONTROLLER, COUNTER, DIVISION, DOUBLED, ELEVEN_EVENTS, FOUR_WIDTHS, INPUTS, LATER, QUOTIENTS,
-    SAMPLED_DIVISION, SHIFTS, TABLES, THREE_LEVELS, TWO_LEVELS, TWO_STATES, repeated, sizes,
+    SAMPLED_DIVISION, SHIFTS, TABLES, THREE_LEVELS, TWO_LEVELS, TWO_STATES, in_full, sizes,
 };
 use efrp_syntax::{parse, print};
 use std::alloc::Global;
@@ -41,38 +41,18 @@ fn worked_sources_again(rt: HostRuntime) -> Result<(), Fail> {
     Ok(())
 }
 
-/// Long ones: eight, forty and two hundred operators in a row, and 86 definitions.
+/// Long ones in short: eight, forty and two hundred operators in a row, and 86 definitions.
+const LONG: &str = "\
+event Go = T0 priority 1; let x : u16 = init 7w in { Go => x` / x`8`; };
+event Go = T0 priority 1; let x : u16 = init 7w in { Go => x` / x`40`; };
+event Go = T0 priority 1; let s : u8 = init 0 in { Go => 1` + 1`199`; };
+event Go = T0 priority 1; `let w : u16 = init 0w in { Go => 1w; }; `86`let b : u8 = init 0 in { Go => 1; };";
+
 #[test]
 fn long_sources_again(rt: HostRuntime) -> Result<(), Fail> {
-    let alloc = rt.alloc();
-    for (front, piece, times, back) in [
-        (
-            "event Go = T0 priority 1; let x : u16 = init 7w in { Go => x",
-            " / x",
-            8,
-            "; };",
-        ),
-        (
-            "event Go = T0 priority 1; let x : u16 = init 7w in { Go => x",
-            " / x",
-            40,
-            "; };",
-        ),
-        (
-            "event Go = T0 priority 1; let s : u8 = init 0 in { Go => 1",
-            " + 1",
-            199,
-            "; };",
-        ),
-        (
-            "event Go = T0 priority 1; ",
-            "let w : u16 = init 0w in { Go => 1w; }; ",
-            86,
-            "let b : u8 = init 0 in { Go => 1; };",
-        ),
-    ] {
-        let text = repeated(alloc, front, piece, times, back)?;
-        assert!(rt; is_same_again(alloc, text.as_str())?, "{piece}");
+    for short in LONG.lines() {
+        let text = in_full(rt.alloc(), short, 0)?;
+        assert!(rt; is_same_again(rt.alloc(), text.as_str())?, "{short}");
     }
     Ok(())
 }

@@ -1,8 +1,9 @@
 // Source texts have the trees that their authors mean, and broken ones their first faults.
 use crate::sources::{
-    CONTROLLER, COUNTER, DIVISION, INPUTS, LATER, TABLES, TWO_STATES, repeated, sizes,
+    CONTROLLER, COUNTER, DIVISION, INPUTS, LATER, TABLES, TWO_STATES, in_full, repeated, sizes,
 };
-use efrp_syntax::{SyntaxFault, parse};
+use efrp_syntax::SyntaxFault::{self, TooDeep, TooMany};
+use efrp_syntax::parse;
 use frp_tree::{Behaviour, BinOp, Expr, Kind, Lit, Program, Side, Ty};
 use std::alloc::{AllocError, Global};
 use std::test::Fail;
@@ -63,63 +64,26 @@ fn faults(rt: HostRuntime) -> Result<(), Fail> {
 
 #[test]
 fn each_limit(rt: HostRuntime) -> Result<(), Fail> {
-    for (front, piece, times, back, want) in [
+    for (want, short) in [
+        (TooMany(Kind::Events), "`event A = B priority 1;`11`"),
+        (TooMany(Kind::Setups), "`setup A = 1;`32`"),
+        (TooMany(Kind::Definitions), "`let n : u8 = 1;`128`"),
+        (TooMany(Kind::Outputs), "`output A = 1;`5`"),
+        (TooMany(Kind::Nodes), "let n : u8 = ~1` + 1`2047`;"),
+        (TooDeep(69), "let n : u8 = `~`64`1;"),
+        (TooMany(Kind::Entries), "let t : u8 = table { 0`, 0`255`};"),
         (
-            "",
-            "event A = B priority 1;",
-            11,
-            "",
-            SyntaxFault::TooMany(Kind::Events),
-        ),
-        (
-            "",
-            "setup A = 1;",
-            32,
-            "",
-            SyntaxFault::TooMany(Kind::Setups),
-        ),
-        (
-            "",
-            "let n : u8 = 1;",
-            128,
-            "",
-            SyntaxFault::TooMany(Kind::Definitions),
-        ),
-        (
-            "",
-            "output A = 1;",
-            5,
-            "",
-            SyntaxFault::TooMany(Kind::Outputs),
-        ),
-        (
-            "let n : u8 = ~1",
-            " + 1",
-            2_047,
-            ";",
-            SyntaxFault::TooMany(Kind::Nodes),
-        ),
-        ("let n : u8 = ", "~", 64, "1;", SyntaxFault::TooDeep(69)),
-        (
-            "let t : u8 = table { 0",
-            ", 0",
-            255,
-            "};",
-            SyntaxFault::TooMany(Kind::Entries),
-        ),
-        (
-            "",
-            "let t : u8 = table { 0,1,2,3,4,5,6,7,8,9,0,1,2,3,4,5,6,7,8,9,0,1,2,3,4,5,6,7,8,9,0,1 };",
-            64,
-            "",
-            SyntaxFault::TooMany(Kind::Entries),
+            TooMany(Kind::Entries),
+            "`let t : u8 = table { 0,1,2,3,4,5,6,7,8,9,0,1,2,3,4,5,6,7,8,9,0,1,2,3,4,5,6,7,8,9,0,1 };`64`",
         ),
     ] {
-        let alloc = rt.alloc();
-        let within = repeated(alloc, front, piece, times, back)?;
-        assert!(rt; fault_of(alloc, within.as_str()).is_none(), "{piece}");
-        let past = repeated(alloc, front, piece, times + 1, back)?;
-        assert!(rt; fault_of(alloc, past.as_str()) == Some(want), "{piece}");
+        let within = in_full(rt.alloc(), short, 0)?;
+        assert!(rt; fault_of(rt.alloc(), within.as_str()).is_none(), "{short}");
+        let past = in_full(rt.alloc(), short, 1)?;
+        assert!(rt;
+            fault_of(rt.alloc(), past.as_str()) == Some(want),
+            "{short}"
+        );
     }
     Ok(())
 }
@@ -131,27 +95,26 @@ fn one_past_the_limits(rt: HostRuntime) -> Result<(), Fail> {
     within.push_str(repeated(alloc, "", ")", 64, ";")?.as_str())?;
     assert!(rt; fault_of(alloc, within.as_str()).is_none());
     let past = repeated(alloc, "let n : u8 =", "(", 65, "")?;
-    assert!(rt; fault_of(alloc, past.as_str()) == Some(SyntaxFault::TooDeep(69)));
+    assert!(rt; fault_of(alloc, past.as_str()) == Some(TooDeep(69)));
     let many = repeated(alloc, "let n : u8 = ~~1", " + 1", 2_047, ";")?;
-    assert!(rt; fault_of(alloc, many.as_str()) == Some(SyntaxFault::TooMany(Kind::Nodes)));
+    assert!(rt; fault_of(alloc, many.as_str()) == Some(TooMany(Kind::Nodes)));
     Ok(())
 }
 
 #[test]
 fn cut_before_each_token(rt: HostRuntime) -> Result<(), Fail> {
-    let alloc = rt.alloc();
-    let mut text = String::new(alloc);
+    let mut text = String::new(rt.alloc());
     for (n, word) in WORDS.iter().enumerate() {
         let want = if WHOLE.contains(&n) {
             None
         } else {
             Some(SyntaxFault::Unexpected(n as u32))
         };
-        assert!(rt; fault_of(alloc, text.as_str()) == want, "{n}");
+        assert!(rt; fault_of(rt.alloc(), text.as_str()) == want, "{n}");
         text.push_str(word)?;
         text.push_str(" ")?;
     }
-    assert!(rt; fault_of(alloc, text.as_str()).is_none());
+    assert!(rt; fault_of(rt.alloc(), text.as_str()).is_none());
     Ok(())
 }
 

@@ -144,23 +144,35 @@ fn read_and_printed_again(rt: HostRuntime) -> Result<(), Fail> {
     Ok(())
 }
 
+/// Whether just this is printed of a program of these outputs.
+fn are_printed(alloc: Global, exprs: Vec<Expr>, lines: &str) -> Result<bool, Fail> {
+    let program = outputs_of(alloc, exprs)?;
+    let text = print(alloc, &program)?;
+    Ok(text.as_slice() == lines.as_bytes())
+}
+
+const BRACKETED: &str = "output P = ( a + b ) * c ;
+output P = a - ( b - c ) ;
+output P = ( a < b ) == c ;
+output P = ! a ;
+";
+
 #[test]
 fn brackets_where_they_are_needed(rt: HostRuntime) -> Result<(), Fail> {
-    let program = outputs_of(rt.alloc(), bracketed(rt.alloc())?)?;
-    let text = print(rt.alloc(), &program)?;
-    let lines: &[u8] =
-        b"output P = ( a + b ) * c ;\noutput P = a - ( b - c ) ;\noutput P = ( a < b ) == c ;\noutput P = ! a ;\n";
-    assert!(rt; text.as_slice() == lines);
+    assert!(rt; are_printed(rt.alloc(), bracketed(rt.alloc())?, BRACKETED)?);
     Ok(())
 }
 
+const CHOSEN: &str = "output P = ( if a then b else c ) + d ;
+output P = if a then b else c + d ;
+output P = a >> 1 << 2 ;
+output P = t [ a ] ;
+output P = u16 ( 500w ) ;
+";
+
 #[test]
 fn choices_shifts_and_look_ups(rt: HostRuntime) -> Result<(), Fail> {
-    let program = outputs_of(rt.alloc(), chosen(rt.alloc())?)?;
-    let text = print(rt.alloc(), &program)?;
-    let lines: &[u8] =
-        b"output P = ( if a then b else c ) + d ;\noutput P = if a then b else c + d ;\noutput P = a >> 1 << 2 ;\noutput P = t [ a ] ;\noutput P = u16 ( 500w ) ;\n";
-    assert!(rt; text.as_slice() == lines);
+    assert!(rt; are_printed(rt.alloc(), chosen(rt.alloc())?, CHOSEN)?);
     Ok(())
 }
 

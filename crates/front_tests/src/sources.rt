@@ -1,9 +1,13 @@
 // Worked source texts, and pieces of texts.
 use frp_tree::Program;
 use std::alloc::{AllocError, Global};
+use std::test::Fail;
 
-pub const COUNTER: &str =
-    "event Tick = INT priority 1;\nsetup TRISB = 0;\nlet n : u8 = init 0 in { Tick => n + 1; };\noutput PORTB = n;\n";
+pub const COUNTER: &str = "event Tick = INT priority 1;
+setup TRISB = 0;
+let n : u8 = init 0 in { Tick => n + 1; };
+output PORTB = n;
+";
 
 pub const TWO_STATES: &str =
     "event Tick = INT priority 1; let a : u8 = init 5 in { Tick => a + 1 later; }; let b : u8 = init 0 in { Tick => a; }; output PORTB = a;";
@@ -11,8 +15,11 @@ pub const TWO_STATES: &str =
 pub const LATER: &str =
     "event Go = T0 priority 2; let x : u8 = init 1 in { Go => y + 1 later; }; let y : u8 = init 2 in { Go => x + x; };";
 
-pub const DIVISION: &str =
-    "event Low = TMR1 priority 1;\nevent High = INT priority 2;\nlet d : u16 = init 3w in { High => d + 2w; };\nlet q : u16 = init 0w in { Low => 60000w / d; };\n";
+pub const DIVISION: &str = "event Low = TMR1 priority 1;
+event High = INT priority 2;
+let d : u16 = init 3w in { High => d + 2w; };
+let q : u16 = init 0w in { Low => 60000w / d; };
+";
 
 pub const CONTROLLER: &str = "event Slow = TMR1 priority 1;
 event Tick = TMR2 priority 3;
@@ -35,11 +42,19 @@ output PORTC = if duty then 1 else 0;
 output PORTB = u8(runtime >> 8);
 ";
 
-pub const INPUTS: &str =
-    "event Tick = INT priority 1;\nsetup TRISC = 0;\nlet level : u8 = input PORTB;\nlet top : u8 = init 0 in { Tick => if level > top then level else top; };\noutput PORTC = top;\n";
+pub const INPUTS: &str = "event Tick = INT priority 1;
+setup TRISC = 0;
+let level : u8 = input PORTB;
+let top : u8 = init 0 in { Tick => if level > top then level else top; };
+output PORTC = top;
+";
 
-pub const TABLES: &str =
-    "event Tick = INT priority 1;\nsetup TRISB = 0;\nlet wave : u8 = table { 0, 10, 30, 60, 100 };\nlet i : u8 = init 0 in { Tick => i + 3; };\noutput PORTB = wave[i];\n";
+pub const TABLES: &str = "event Tick = INT priority 1;
+setup TRISB = 0;
+let wave : u8 = table { 0, 10, 30, 60, 100 };
+let i : u8 = init 0 in { Tick => i + 3; };
+output PORTB = wave[i];
+";
 
 pub const DOUBLED: &str = "event Go = T0 priority 2; let n : u8 = init 3 in { Go => n + n; };";
 
@@ -113,4 +128,21 @@ pub fn repeated(
     }
     text.push_str(back)?;
     Ok(text)
+}
+
+/// The text that stands in short as `FRONT`PIECE`N`BACK`, with the piece N times and so many times more.
+pub fn in_full(alloc: Global, short: &str, more: usize) -> Result<String, Fail> {
+    let mut parts = short.split('`');
+    let (Some(front), Some(piece), Some(times), Some(back)) = (
+        parts.next(),
+        parts.next(),
+        parts.next(),
+        parts.next(),
+    ) else {
+        return Err(Fail::new("a text in short has four parts"));
+    };
+    let Ok(times) = times.parse::<usize>() else {
+        return Err(Fail::new("the third part of a text in short is a number"));
+    };
+    Ok(repeated(alloc, front, piece, times.saturating_add(more), back)?)
 }
