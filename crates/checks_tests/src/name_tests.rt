@@ -52,23 +52,24 @@ fn first_faults(rt: HostRuntime) -> Result<(), Fail> {
         let (words, text) = row.split_once(" | ").unwrap_or((row, ""));
         let program = parse(rt.alloc(), text.as_bytes())?;
         let fault = check_names(rt.alloc(), &program).err();
-        assert!(rt;
-            fault.is_some_and(|it| Some(told(&it)) == words.rsplit_once(' ')),
-            "{row}"
-        );
+        let is_told = fault.is_some_and(|it| Some(told(&it)) == words.rsplit_once(' '));
+        assert!(rt; is_told, "{row}");
     }
     Ok(())
 }
 
+/// Programs whose names have no fault.
+const FAULTLESS: [&str; 5] = [
+    "",
+    "event Tick = INT priority 1;\nsetup TRISB = 0;\nlet n : u8 = init 0 in { Tick => n + 1; };\noutput PORTB = n;\n",
+    "let t : u8 = table { 1, 2 }; output PORTB = t[1];",
+    "let a : u8 = b; let b : u8 = a;",
+    "let n : u8 = 1w; output PORTA = 300;",
+];
+
 #[test]
 fn no_faults(rt: HostRuntime) -> Result<(), Fail> {
-    for text in [
-        "",
-        "event Tick = INT priority 1;\nsetup TRISB = 0;\nlet n : u8 = init 0 in { Tick => n + 1; };\noutput PORTB = n;\n",
-        "let t : u8 = table { 1, 2 }; output PORTB = t[1];",
-        "let a : u8 = b; let b : u8 = a;",
-        "let n : u8 = 1w; output PORTA = 300;",
-    ] {
+    for text in FAULTLESS {
         let program = parse(rt.alloc(), text.as_bytes())?;
         assert!(rt; check_names(rt.alloc(), &program).is_ok(), "{text}");
     }

@@ -26,11 +26,15 @@ fn is_reaction(r: &Reaction, values: &[Value], ports: &[u8]) -> bool {
     r.state.values.as_slice() == values && r.ports.as_slice() == ports
 }
 
+/// A clause with `later`, and one at once that reads its definition.
+const TICKING: &str = "event Tick = INT priority 1; \
+    let a : u8 = init 5 in { Tick => a + 1 later; }; \
+    let b : u8 = init 0 in { Tick => a; }; \
+    output PORTB = a;";
+
 #[test]
 fn ticks(rt: HostRuntime) -> Result<(), Fail> {
-    let text =
-        "event Tick = INT priority 1; let a : u8 = init 5 in { Tick => a + 1 later; }; let b : u8 = init 0 in { Tick => a; }; output PORTB = a;";
-    let Ok(c) = checked(rt.alloc(), text)? else {
+    let Ok(c) = checked(rt.alloc(), TICKING)? else {
         return Err(Fail::new("the program passes the checks"));
     };
     let begin = initial(rt.alloc(), &c)?;

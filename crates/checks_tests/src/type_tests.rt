@@ -4,6 +4,7 @@ use efrp_types::{CheckFault, Typed, check_names, check_types, spelled_is_well_fo
 use frp_tree::{BinOp, Expr, Lit, Text, Ty};
 use pic_isa::Source;
 use std::alloc::Global;
+use std::process::Abort;
 use std::test::Fail;
 
 /// The typed program of a text, or its first fault.
@@ -57,6 +58,15 @@ fn is_faulty(alloc: Global, row: &str) -> Result<bool, Fail> {
     }
 }
 
+/// Asserts of each row that its text has a first fault, and that it is the one that the row tells.
+fn expect_faults(rt: &(impl AllocGlobal + Abort), rows: &str) -> Result<(), Fail> {
+    for row in rows.lines() {
+        assert!(rt; is_faulty(rt.alloc(), row)?, "{row}");
+    }
+    Ok(())
+}
+
+/// Texts of one fault each, which stands before the bar.
 const UNLIKE: &str = "\
 type x u8 bool | let x : u8 = ~true;
 type x bool u8 | let x : bool = !1;
@@ -94,12 +104,10 @@ type x u8 u16 | event A = INT priority 1; let x : u8 = init 0 in { A => u16(x); 
 
 #[test]
 fn unlike_types(rt: HostRuntime) -> Result<(), Fail> {
-    for row in UNLIKE.lines() {
-        assert!(rt; is_faulty(rt.alloc(), row)?, "{row}");
-    }
-    Ok(())
+    expect_faults(&rt, UNLIKE)
 }
 
+/// Numbers that are too big where they stand.
 const OUT_OF_RANGE: &str = "\
 literal x | let x : u8 = 256;
 literal x | let x : u8 = init 65535 in { };
@@ -112,10 +120,7 @@ shift x | let x : bool = 1 >> 65535 == 1w;";
 
 #[test]
 fn numbers_out_of_range(rt: HostRuntime) -> Result<(), Fail> {
-    for row in OUT_OF_RANGE.lines() {
-        assert!(rt; is_faulty(rt.alloc(), row)?, "{row}");
-    }
-    Ok(())
+    expect_faults(&rt, OUT_OF_RANGE)
 }
 
 /// Two faults, of which the first in the order of the walk is told.
@@ -128,10 +133,7 @@ type x u8 u16 | event A = INT priority 1; let x : u8 = init 1w in { A => true; }
 
 #[test]
 fn first_of_two(rt: HostRuntime) -> Result<(), Fail> {
-    for row in TWO_FAULTS.lines() {
-        assert!(rt; is_faulty(rt.alloc(), row)?, "{row}");
-    }
-    Ok(())
+    expect_faults(&rt, TWO_FAULTS)
 }
 
 const TYPED: &str = "event Tick = TMR2 priority 2;

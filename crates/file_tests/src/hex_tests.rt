@@ -25,15 +25,6 @@ fn is_small(alloc: Global, text: &[u8]) -> Result<bool, HexFault>
     )
 }
 
-// The fault of a short text.
-fn fault(alloc: Global, text: &[u8]) -> Option<HexFault> {
-    if text.len() <= 100 {
-        read(alloc, text).err()
-    } else {
-        None
-    }
-}
-
 #[test]
 fn either_case_and_any_order(rt: HostRuntime) -> Result<(), Fail> {
     assert!(rt; is_small(rt.alloc(), SMALL)?);
@@ -107,6 +98,15 @@ const FAULTS: &[(HexFault, &[&[u8]])] = &[
     (HexFault::AfterEnd(3), &[b":00000001FF\n\n:00000001FF"]),
     (HexFault::NoEnd, &[b"", b":020000000028D6\n"]),
 ];
+
+// The fault of a short text.
+fn fault(alloc: Global, text: &[u8]) -> Option<HexFault> {
+    if text.len() <= 100 {
+        read(alloc, text).err()
+    } else {
+        None
+    }
+}
 
 // The number of the first of these texts, from 0 on, that has another fault than this.
 fn other_fault(alloc: Global, wanted: HexFault, texts: &[&[u8]]) -> Option<usize> {

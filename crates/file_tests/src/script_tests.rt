@@ -44,59 +44,42 @@ fn fault(alloc: Global, text: &[u8]) -> Option<(u32, Cause)> {
     }
 }
 
-// Faulty texts, between bars, behind the cause of their first fault and the line in which it stands.
-const FAULTS: &[(Cause, u32, &[u8])] = &[
-    (Cause::AfterSteps, 3, b"steps 9\n# then\nnonsense"),
-    (
-        Cause::BadLine,
-        1,
-        b"at x|fill 0G|late|late even|pin 5 PORTB 0",
-    ),
-    (
-        Cause::BadLine,
-        2,
-        b"\nstep 9|fill 00\nfill 00|late odd\nlate odd|late odd\nfill 00|at 5 INT\nlate odd",
-    ),
-    (
-        Cause::BadNumber,
-        1,
-        b"at 000000001 RB|steps 10000001|steps 9\r|pin five PORTX 00",
-    ),
-    (Cause::UnknownSource, 1, b"at 5 INT INT \xFF"),
-    (Cause::UnknownPort, 1, b"pin 5 PORTX 00|pin 5 PORT\xFF 00"),
-    (Cause::SourceTwice, 1, b"at 5 T0 INT T0"),
-    (
-        Cause::NotRising,
-        2,
-        b"at 5 INT\nat 5 T0|at 5 INT\npin 4 PORTB 00|pin 5 PORTB 00\nat 4 INT",
-    ),
-    (
-        Cause::PinTwice,
-        4,
-        b"pin 5 PORTB 00\nat 5 INT\npin 5 PORTA 00\npin 5 PORTB 01",
-    ),
-    (Cause::NoSteps, 2, b"at 5 INT\n"),
-    (Cause::PastEnd, 2, b"at 5 INT\nat 6 T0\nat 7 T0\nsteps 6"),
-    (
-        Cause::PastEnd,
-        3,
-        b"pin 4 PORTB 00\npin 5 PORTB 00\npin 6 PORTB 00\nsteps 6",
-    ),
-];
+// Faulty texts, each row with a bar before each: the line and the cause of their first fault, and then the texts.
+const FAULTS: &[u8] = b"\
+    3 AfterSteps|steps 9\n# then\nnonsense;\
+    2 BadLine|\nstep 9|fill 00\nfill 00|late odd\nlate odd|late odd\nfill 00|at 5 INT\nlate odd;\
+    1 BadLine|at x|fill 0G|late|late even|pin 5 PORTB 0;\
+    1 BadNumber|at 000000001 RB|steps 10000001|steps 9\r|pin five PORTX 00;\
+    1 UnknownSource|at 5 INT INT \xFF;\
+    1 UnknownPort|pin 5 PORTX 00|pin 5 PORT\xFF 00;\
+    1 SourceTwice|at 5 T0 INT T0;\
+    2 NotRising|at 5 INT\nat 5 T0|at 5 INT\npin 4 PORTB 00|pin 5 PORTB 00\nat 4 INT;\
+    4 PinTwice|pin 5 PORTB 00\nat 5 INT\npin 5 PORTA 00\npin 5 PORTB 01;\
+    2 NoSteps|at 5 INT\n;\
+    2 PastEnd|at 5 INT\nat 6 T0\nat 7 T0\nsteps 6;\
+    3 PastEnd|pin 4 PORTB 00\npin 5 PORTB 00\npin 6 PORTB 00\nsteps 6";
 
-// The number of the first of these texts, from 0 on, of which the first fault is another one.
-fn other_fault(alloc: Global, wanted: (u32, Cause), texts: &[u8]) -> Option<usize> {
-    texts
-        .split(|byte| *byte == b'|')
-        .position(|text| fault(alloc, text) != Some(wanted))
+// The first text of a row that has another first fault than the row tells, or none.
+fn other_text<'a>(alloc: Global, row: &'a [u8]) -> Result<Option<&'a [u8]>, Fail> {
+    let mut parts = row.split(|byte| *byte == b'|');
+    let told = parts.next().unwrap_or(row);
+    for text in parts {
+        let Some((line, cause)) = fault(alloc, text) else {
+            return Ok(Some(text));
+        };
+        if format!(in alloc; "{line} {cause:?}")?.as_bytes() != told {
+            return Ok(Some(text));
+        }
+    }
+    Ok(None)
 }
 
 #[test]
-fn each_cause_has_its_line(rt: HostRuntime) {
-    for (cause, line, texts) in FAULTS {
-        let other = other_fault(rt.alloc(), (*line, *cause), texts);
-        assert_eq!(rt; other, None, "{cause:?} {line}");
+fn each_cause_has_its_line(rt: HostRuntime) -> Result<(), Fail> {
+    for row in FAULTS.split(|byte| *byte == b';') {
+        assert_eq!(rt; other_text(rt.alloc(), row)?, None, "{row:?}");
     }
+    Ok(())
 }
 
 #[test]

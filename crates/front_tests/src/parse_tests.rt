@@ -80,10 +80,8 @@ fn each_limit(rt: HostRuntime) -> Result<(), Fail> {
         let within = in_full(rt.alloc(), short, 0)?;
         assert!(rt; fault_of(rt.alloc(), within.as_str()).is_none(), "{short}");
         let past = in_full(rt.alloc(), short, 1)?;
-        assert!(rt;
-            fault_of(rt.alloc(), past.as_str()) == Some(want),
-            "{short}"
-        );
+        let fault = fault_of(rt.alloc(), past.as_str());
+        assert!(rt; fault == Some(want), "{short}");
     }
     Ok(())
 }

@@ -154,8 +154,7 @@ fn are_printed(alloc: Global, exprs: Vec<Expr>, lines: &str) -> Result<bool, Fai
 const BRACKETED: &str = "output P = ( a + b ) * c ;
 output P = a - ( b - c ) ;
 output P = ( a < b ) == c ;
-output P = ! a ;
-";
+output P = ! a ;\n";
 
 #[test]
 fn brackets_where_they_are_needed(rt: HostRuntime) -> Result<(), Fail> {
@@ -167,8 +166,7 @@ const CHOSEN: &str = "output P = ( if a then b else c ) + d ;
 output P = if a then b else c + d ;
 output P = a >> 1 << 2 ;
 output P = t [ a ] ;
-output P = u16 ( 500w ) ;
-";
+output P = u16 ( 500w ) ;\n";
 
 #[test]
 fn choices_shifts_and_look_ups(rt: HostRuntime) -> Result<(), Fail> {
