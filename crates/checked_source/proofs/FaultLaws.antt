@@ -1,5 +1,5 @@
 -- A program that has no first fault passes the checks.
-use Rattle.std.specs.Prelude.{◌≡◌, ℕ, Bool, true, false, ◌⊎◌, List, [], ◌∷◌, ◌++◌, map, Option, Some, None, refl, if◌then◌else◌}
+use Rattle.std.specs.Prelude.{◌≡◌, ℕ, Bool, true, false, ◌⊎◌, List, [], ◌∷◌, ◌++◌, map, is_none, Option, Some, None, refl, if◌then◌else◌}
 use Rattle.std.specs.List.{AllByRecursion, list_any}
 use Rattle.std.specs.Str.{bytes_eq}
 use Rattle.std.proofs.Common.{ap, inl, inr, subst, sym, ◌∙◌}
@@ -22,27 +22,28 @@ use Rattle.checked_source.specs.Laws.{HasFirstFault, PassesExactly}
 use Rattle.checked_source.specs.Readings.{check_faults}
 use Rattle.checked_source.proofs.ReadingLaws.{no-first}
 
+-- One more at the end of a row, each of which has it, leaves it so.
+one-more : {A : Type 0} (P : A → Type 0) (xs : List A) (x : A) → AllByRecursion P xs → P x → AllByRecursion P (xs ++ x ∷ [])
+one-more P [] x all last = (last, tt)
+one-more P (y ∷ ys) x all last = (all.0, one-more P ys x all.1 last)
+
 -- No element of a row has it, where none is the first that has it.
 none-has : {A : Type 0} (P : A → Type 0) (all front back : List A) → all ≡ front ++ back → AllByRecursion (λ x. ¬ P x) front
     → ((before after : List A) (x : A) → all ≡ before ++ x ∷ after → P x → AllByRecursion (λ y. ¬ P y) before → ⊥) → AllByRecursion (λ x. ¬ P x) back
 none-has P all front [] is none never = tt
-none-has P all front (x ∷ back) is none never =
-    let not = λ h. never front back x is h none in
-    (not, none-has P all (front ++ x ∷ []) back (is ∙ sym (append_snoc front x back)) (push front none not) never)
-  where
-    push : (xs : List A) → AllByRecursion (λ y. ¬ P y) xs → ¬ P x → AllByRecursion (λ y. ¬ P y) (xs ++ x ∷ [])
-    push [] h last = (last, tt)
-    push (y ∷ ys) h last = (h.0, push ys h.1 last)
+none-has {A = A} P all front (x ∷ back) is none never =
+    let not : ¬ P x = λ h. never front back x is h none in
+    (not, none-has P all (front ++ x ∷ []) back (is ∙ sym (append_snoc front x back)) (one-more (λ y. ¬ P y) front x none not) never)
 
 -- The definition that a name stands for has what each definition's name has.
 named-has : (P : List ℕ → Type 0) (ds : List DeclTree) (x : List ℕ) (d : DeclTree) → decl_named ds x ≡ Some d
     → AllByRecursion (λ (c : DeclTree). P c.name) ds → P x
-named-has P [] x d () all
-named-has P (c ∷ cs) x d is all = by_name (bytes_eq x c.name) refl is
+named-has P [] x d is all = absurd (false≢true (sym (ap is_none is)))
+named-has P (c ∷ cs) x d is all = by_name (bytes_eq x c.name) refl is (λ rest. named-has P cs x d rest all.1)
   where
-    by_name : (same : Bool) → bytes_eq x c.name ≡ same → (if same then Some c else decl_named cs x) ≡ Some d → P x
-    by_name true same found = subst P (sym ((bytes_eq-Decides x c.name).0 same)) all.0
-    by_name false same found = named-has P cs x d found all.1
+    by_name : (same : Bool) → bytes_eq x c.name ≡ same → (if same then Some c else decl_named cs x) ≡ Some d → (decl_named cs x ≡ Some d → P x) → P x
+    by_name true same found rest = subst P (sym ((bytes_eq-Decides x c.name).0 same)) all.0
+    by_name false same found rest = rest found
 
 module _ (p : ProgramTree) (event : List ℕ) where
   -- A name that no definition has depends on nothing.
@@ -74,14 +75,9 @@ module _ (p : ProgramTree) where
   causal-events : ((event x : List ℕ) → ¬ IsFirstCycle p event x) → (front back : List Event) → p.events ≡ front ++ back
       → AllByRecursion (λ (e : Event). IsCausalOn p e.name) front → AllByRecursion (λ (e : Event). IsCausalOn p e.name) back
   causal-events never front [] is before = tt
-  causal-events never front (e ∷ es) is before = (here, causal-events never (front ++ e ∷ []) es (is ∙ sym (append_snoc front e es)) (push front before))
-    where
-      here : IsCausalOn p e.name
-      here = causal-without-first p e.name (λ x first. never e.name x (record { event_is_first = (front, es, e, is, refl, before); name_is_first = first }))
-
-      push : (xs : List Event) → AllByRecursion (λ (b : Event). IsCausalOn p b.name) xs → AllByRecursion (λ (b : Event). IsCausalOn p b.name) (xs ++ e ∷ [])
-      push [] h = (here, tt)
-      push (x ∷ xs) h = (h.0, push xs h.1)
+  causal-events never front (e ∷ es) is before =
+      let here = causal-without-first p e.name (λ x first. never e.name x (record { event_is_first = (front, es, e, is, refl, before); name_is_first = first })) in
+      (here, causal-events never (front ++ e ∷ []) es (is ∙ sym (append_snoc front e es)) (one-more (λ (b : Event). IsCausalOn p b.name) front e before here))
 
   -- Without a first fault of names or types there is none of either.
   checked-without-first : ((fault : CheckFault) → ¬ IsFirst fault (check_faults p)) → IsChecked p
@@ -99,7 +95,7 @@ module _ (p : ProgramTree) where
   passes-exactly = record {
     faultless = λ none.
         let checked = checked-without-first (λ fault first. none (inl (fault, first))) in
-        record { checked = checked; causal = causal-events (λ event x first. none (inr (checked, (event, (x, first))))) [] p.events refl tt };
+        record { checked = checked; causal = causal-events (λ event x first. none (inr (checked, event, x, first))) [] p.events refl tt };
     faulty = λ fault passes. elim fault [
       | inl first ↦ no-first p first.0 passes.checked first.1
       | inr cycle ↦ (cycle-is-first p).not_causal cycle.1 cycle.2 cycle.3 passes.causal
