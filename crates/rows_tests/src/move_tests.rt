@@ -11,11 +11,13 @@ fn pushed_back(rows: &mut Rows, list: u32, node: u32) -> bool
     ensures lists { length rows.new.lists ≡ length rows.old.lists }
     ensures nodes { rows.new.nodes ≡ rows.old.nodes }
 {
-    if let Some(_list) = rows.list_of(node) {
-        return false;
+    match rows.list_of(node) {
+        Some(_list) => false,
+        None => {
+            rows.push_back(list, node);
+            true
+        }
     }
-    rows.push_back(list, node);
-    true
 }
 
 /// Puts a node that is in no list before one that is in a list; false where there are no such two.
