@@ -5,7 +5,7 @@ use Rattle.std.specs.Int.Bits.{or_add_and}
 use Rattle.std.proofs.Common.{◌≡◌, ℕ, ◌+◌, ◌-◌, ◌*◌, ◌%◌, ◌<◌, ◌≤◌, ◌==◌, Bool, true, false, not, if◌then◌else◌, nat_lt, nat_le, bit_or, IsTrue, None, [], ◌∷◌, refl, ap, sym, ◌∙◌, inl, inr, arith, lit≤}
 use Rattle.frp_tree.specs.declared.syntax.BinOp.{BinOp}
 use Rattle.frp_tree.specs.declared.syntax.BinOp.TheVariants.{Eq, Ne, Lt, Le, Gt, Ge}
-use Rattle.efrp_meaning.specs.Bounds.{binary_weight}
+use Rattle.efrp_meaning.specs.Bounds.{binary_weight, by_width}
 use Rattle.efrp_meaning.specs.Values.{truth_number}
 use Rattle.byte_ops.specs.declared.operations.Op.TheVariants as op
 use Rattle.byte_ops.specs.declared.operations.Pair.{Pair}
@@ -156,6 +156,12 @@ same_order y y_high x x_high = by_low (num y) (num x) (num-below y) (num-below x
       | inr more ↦ ap (λ c. high_carry c y_high x_high) (le-leb m n more) ∙ not_above_wide m n (num y_high) (num x_high) m_below n_below more
     ]
 
+wide_tells : (v : Bool) (n : Name) (w : Byte) (z : Bool) (mem : ℕ → Byte) (y x : Byte)
+    → num ((run (high_not_above n (told_by (SkipCarry v))) (at_rest w (nat_le (num y) (num x)) z mem)).mem 12)
+    ≡ truth_number (agrees v (nat_le (num y + 256 * num (mem (number n))) (num x + 256 * num (mem 0))))
+wide_tells v n w z mem y x =
+    high_tells v n w (nat_le (num y) (num x)) z mem ∙ ap (λ k. truth_number (agrees v k)) (same_order y (mem (number n)) x (mem 0))
+
 module _ (w : Byte) (c z : Bool) (mem : ℕ → Byte) where
   -- Each pair of numbers that an operation has here.
   abbrev a_number : (wide : Bool) → ℕ
@@ -164,19 +170,18 @@ module _ (w : Byte) (c z : Bool) (mem : ℕ → Byte) where
   abbrev b_number : (wide : Bool) → ℕ
   b_number wide = held wide b_pair (λ n. num (mem n))
 
-  b_order : (v wide : Bool)
-      → num ((run (b_not_above wide (told_by (SkipCarry v))) (at_rest w c z mem)).mem 12) ≡ truth_number (agrees v (nat_le (b_number wide) (a_number wide)))
-  b_order v false = let s : State = run (b_not_above false []) (at_rest w c z mem) in carry_tells v s.w s.carry s.zero s.mem
-  b_order v true =
+  -- B isn't above A, or A isn't above B.
+  order : (v wide of_b : Bool)
+      → num ((run (if of_b then b_not_above wide (told_by (SkipCarry v)) else a_not_above wide (told_by (SkipCarry v))) (at_rest w c z mem)).mem 12)
+      ≡ truth_number (agrees v (if of_b then nat_le (b_number wide) (a_number wide) else nat_le (a_number wide) (b_number wide)))
+  order v false true = let s : State = run (b_not_above false []) (at_rest w c z mem) in carry_tells v s.w s.carry s.zero s.mem
+  order v false false = let s : State = run (a_not_above false []) (at_rest w c z mem) in carry_tells v s.w s.carry s.zero s.mem
+  order v true true =
       let s : State = run (File Mov AHigh W ∷ Store Operand0 ∷ File Mov B W ∷ File Sub A W ∷ []) (at_rest w c z mem) in
-      high_tells v BHigh s.w s.carry s.zero s.mem ∙ ap (λ k. truth_number (agrees v k)) (same_order (mem 16) (mem 17) (mem 14) (mem 15))
-
-  a_order : (v wide : Bool)
-      → num ((run (a_not_above wide (told_by (SkipCarry v))) (at_rest w c z mem)).mem 12) ≡ truth_number (agrees v (nat_le (a_number wide) (b_number wide)))
-  a_order v false = let s : State = run (a_not_above false []) (at_rest w c z mem) in carry_tells v s.w s.carry s.zero s.mem
-  a_order v true =
+      wide_tells v BHigh s.w s.zero s.mem (mem 16) (mem 14)
+  order v true false =
       let s : State = run (File Mov BHigh W ∷ Store Operand0 ∷ File Mov A W ∷ File Sub B W ∷ []) (at_rest w c z mem) in
-      high_tells v AHigh s.w s.carry s.zero s.mem ∙ ap (λ k. truth_number (agrees v k)) (same_order (mem 14) (mem 15) (mem 16) (mem 17))
+      wide_tells v AHigh s.w s.zero s.mem (mem 14) (mem 16)
 
   equality : (v wide : Bool)
       → num ((run (differ wide (told_by (SkipZero v))) (at_rest w c z mem)).mem 12) ≡ truth_number (agrees v (a_number wide == b_number wide))
@@ -195,11 +200,11 @@ compares : (f : BinOp) (wide : Bool) (to : ℕ) (a b : Pair) → IsTrue (is_comp
 compares Eq wide to a b kind w c z mem h = equality w c z mem true wide
 compares Ne wide to a b kind w c z mem h = equality w c z mem false wide
 compares Lt wide to a b kind w c z mem h =
-    b_order w c z mem false wide ∙ ap truth_number (not_above-below (b_number w c z mem wide) (a_number w c z mem wide))
-compares Le wide to a b kind w c z mem h = a_order w c z mem true wide
+    order w c z mem false wide true ∙ ap truth_number (not_above-below (b_number w c z mem wide) (a_number w c z mem wide))
+compares Le wide to a b kind w c z mem h = order w c z mem true wide false
 compares Gt wide to a b kind w c z mem h =
-    a_order w c z mem false wide ∙ ap truth_number (not_above-below (a_number w c z mem wide) (b_number w c z mem wide))
-compares Ge wide to a b kind w c z mem h = b_order w c z mem true wide
+    order w c z mem false wide false ∙ ap truth_number (not_above-below (a_number w c z mem wide) (b_number w c z mem wide))
+compares Ge wide to a b kind w c z mem h = order w c z mem true wide true
 compares _ wide to a b kind w c z mem h = absurd (cc)
 
 is_sound : (f : BinOp) (wide : Bool) (to : ℕ) (a b : Pair)
@@ -215,19 +220,17 @@ few_words Eq true = lit≤ tt
 few_words _ false = lit≤ tt
 few_words _ true = lit≤ tt
 
+room : (wide : Bool) → (if wide then 22 else 12) ≤ by_width (number_type wide) 24 64
+room false = lit≤ tt
+room true = lit≤ tt
+
 within_weight : (f : BinOp) (wide : Bool) → IsTrue (is_compare f) → (if wide then 22 else 12) ≤ binary_weight f (number_type wide)
-within_weight Eq false kind = lit≤ tt
-within_weight Eq true kind = lit≤ tt
-within_weight Ne false kind = lit≤ tt
-within_weight Ne true kind = lit≤ tt
-within_weight Lt false kind = lit≤ tt
-within_weight Lt true kind = lit≤ tt
-within_weight Le false kind = lit≤ tt
-within_weight Le true kind = lit≤ tt
-within_weight Gt false kind = lit≤ tt
-within_weight Gt true kind = lit≤ tt
-within_weight Ge false kind = lit≤ tt
-within_weight Ge true kind = lit≤ tt
+within_weight Eq wide kind = room wide
+within_weight Ne wide kind = room wide
+within_weight Lt wide kind = room wide
+within_weight Le wide kind = room wide
+within_weight Gt wide kind = room wide
+within_weight Ge wide kind = room wide
 within_weight _ wide kind = absurd (cc)
 
 pub compare-template : (f : BinOp) (wide : Bool) (to : ℕ) (a b : Pair) → IsTrue (is_compare f) → IsTemplate (op.Compare f wide to a b) (template_of (op.Compare f wide to a b))

@@ -30,13 +30,15 @@ high_not_above y_high rest = File Mov y_high W ∷ SkipCarry true ∷ File IncSk
 abbrev pub not_above_wide : (y y_high x x_high : Name) → (rest : List Act) → List Act
 not_above_wide y y_high x x_high rest = File Mov x_high W ∷ Store Operand0 ∷ File Mov y W ∷ File Sub x W ∷ high_not_above y_high rest
 
+abbrev pub not_above_in : (wide : Bool) → (y y_high x x_high : Name) → (rest : List Act) → List Act
+not_above_in false y y_high x x_high rest = not_above y x rest
+not_above_in true y y_high x x_high rest = not_above_wide y y_high x x_high rest
+
 abbrev pub b_not_above : (wide : Bool) → (rest : List Act) → List Act
-b_not_above false rest = not_above B A rest
-b_not_above true rest = not_above_wide B BHigh A AHigh rest
+b_not_above wide rest = not_above_in wide B BHigh A AHigh rest
 
 abbrev pub a_not_above : (wide : Bool) → (rest : List Act) → List Act
-a_not_above false rest = not_above A B rest
-a_not_above true rest = not_above_wide A AHigh B BHigh rest
+a_not_above wide rest = not_above_in wide A AHigh B BHigh rest
 
 -- A comparison of A and B.
 abbrev pub compare_template : BinOp → (wide : Bool) → List Act

@@ -13,11 +13,15 @@ use Rattle.code_acts.specs.declared.acts.Act.TheVariants.{File, Store, Const}
 abbrev pub set_template : (k : ℕ) → List Act
 set_template k = Const MovK k ∷ Store To ∷ []
 
+-- What an operation makes of A: a copy, or each bit turned.
+abbrev pub made_of_a : FileOp → List Act
+made_of_a op = File op A W ∷ Store To ∷ []
+
 abbrev pub copy_template : List Act
-copy_template = File Mov A W ∷ Store To ∷ []
+copy_template = made_of_a Mov
 
 abbrev pub com_template : List Act
-com_template = File Com A W ∷ Store To ∷ []
+com_template = made_of_a Com
 
 abbrev pub not_template : List Act
 not_template = File Mov A W ∷ Const XorK 1 ∷ Store To ∷ []

@@ -1,8 +1,8 @@
 // The templates of operations without a carry, and of a choice.
 
-ghost use Rattle.std.specs.Prelude.{◌≡◌, IfOk};
-ghost use Rattle.op_templates.specs.Choices.{choose_template};
-ghost use Rattle.op_templates.specs.Moves.{bit_op, bits_template, com_template, copy_template, not_template, set_template};
+ghost use Rattle.std.specs.Prelude.{◌≡◌, ◌++◌, [], IfOk};
+ghost use Rattle.op_templates.specs.Choices.{choose_template, picked};
+ghost use Rattle.op_templates.specs.Moves.{bit_op, bits_template, made_of_a, not_template, set_template};
 
 use code_acts::{Act, ConstOp, FileOp, Name};
 use frp_tree::BinOp;
@@ -16,23 +16,11 @@ pub(crate) fn set(alloc: Global, k: u8) -> Result<Vec<Act>, AllocError>
     Ok(vec![in alloc; Act::Const(ConstOp::MovK, k), Act::Store(Name::To)]?)
 }
 
-pub(crate) fn copy(alloc: Global) -> Result<Vec<Act>, AllocError>
-    ensures { IfOk result (λ acts. acts.items ≡ copy_template) }
+// What an operation makes of A: a copy, or each bit turned.
+pub(crate) fn made_of_a(alloc: Global, op: FileOp) -> Result<Vec<Act>, AllocError>
+    ensures { IfOk result (λ acts. acts.items ≡ made_of_a op) }
 {
-    Ok(vec![in alloc;
-        Act::File(FileOp::Mov, Name::A, Dest::W),
-        Act::Store(Name::To),
-    ]?)
-}
-
-// Each bit turned.
-pub(crate) fn complement(alloc: Global) -> Result<Vec<Act>, AllocError>
-    ensures { IfOk result (λ acts. acts.items ≡ com_template) }
-{
-    Ok(vec![in alloc;
-        Act::File(FileOp::Com, Name::A, Dest::W),
-        Act::Store(Name::To),
-    ]?)
+    Ok(vec![in alloc; Act::File(op, Name::A, Dest::W), Act::Store(Name::To)]?)
 }
 
 // A bool turned.
@@ -68,34 +56,37 @@ pub(crate) fn bits(alloc: Global, f: BinOp) -> Result<Vec<Act>, AllocError>
     ]?)
 }
 
+// Acts and, behind them, those that take the byte x where the test skips, and else y.
+fn picked(mut acts: Vec<Act>, test: Act, x: Name, y: Name, to: Name) -> Result<Vec<Act>, AllocError>
+    ensures { IfOk result (λ all. all.items ≡ acts.items ++ picked test x y to []) }
+{
+    acts.extend_from_slice(&[
+        Act::File(FileOp::Mov, y, Dest::W),
+        Act::Store(Name::Operand0),
+        Act::File(FileOp::Mov, x, Dest::W),
+        test,
+        Act::File(FileOp::Mov, Name::Operand0, Dest::W),
+        Act::Store(to),
+    ])?;
+    Ok(acts)
+}
+
 // A where the bool C is 1, and else B.
 pub(crate) fn choice(alloc: Global, wide: bool) -> Result<Vec<Act>, AllocError>
     ensures { IfOk result (λ acts. acts.items ≡ choose_template wide) }
 {
     if wide {
-        Ok(vec![in alloc;
-            Act::File(FileOp::Right, Name::C, Dest::W),
-            Act::File(FileOp::Mov, Name::B, Dest::W),
-            Act::Store(Name::Operand0),
-            Act::File(FileOp::Mov, Name::A, Dest::W),
-            Act::SkipCarry(true),
-            Act::File(FileOp::Mov, Name::Operand0, Dest::W),
-            Act::Store(Name::To),
-            Act::File(FileOp::Mov, Name::BHigh, Dest::W),
-            Act::Store(Name::Operand0),
-            Act::File(FileOp::Mov, Name::AHigh, Dest::W),
-            Act::SkipCarry(true),
-            Act::File(FileOp::Mov, Name::Operand0, Dest::W),
-            Act::Store(Name::ToHigh),
-        ]?)
+        let test = Act::SkipCarry(true);
+        let acts = vec![in alloc; Act::File(FileOp::Right, Name::C, Dest::W)]?;
+        let low = picked(acts, test, Name::A, Name::B, Name::To)?;
+        picked(low, test, Name::AHigh, Name::BHigh, Name::ToHigh)
     } else {
-        Ok(vec![in alloc;
-            Act::File(FileOp::Mov, Name::B, Dest::W),
-            Act::Store(Name::Operand0),
-            Act::File(FileOp::Mov, Name::A, Dest::W),
+        picked(
+            vec![in alloc]?,
             Act::SkipBit(true, Name::C, 0),
-            Act::File(FileOp::Mov, Name::Operand0, Dest::W),
-            Act::Store(Name::To),
-        ]?)
+            Name::A,
+            Name::B,
+            Name::To,
+        )
     }
 }

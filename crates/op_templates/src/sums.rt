@@ -26,22 +26,19 @@ pub(crate) fn sum(alloc: Global, f: BinOp, wide: bool) -> Result<Vec<Act>, Alloc
     ensures { IfOk result (λ acts. acts.items ≡ sum_template f wide) }
 {
     let op = sum_op(f);
+    let mut acts = vec![in alloc;
+        Act::File(FileOp::Mov, Name::B, Dest::W),
+        Act::File(op, Name::A, Dest::W),
+        Act::Store(Name::To),
+    ]?;
     if wide {
-        Ok(vec![in alloc;
-            Act::File(FileOp::Mov, Name::B, Dest::W),
-            Act::File(op, Name::A, Dest::W),
-            Act::Store(Name::To),
+        acts.extend_from_slice(&[
             Act::File(FileOp::Mov, Name::BHigh, Dest::W),
             Act::SkipCarry(f != BinOp::Add),
             Act::Const(ConstOp::AddK, 1),
             Act::File(op, Name::AHigh, Dest::W),
             Act::Store(Name::ToHigh),
-        ]?)
-    } else {
-        Ok(vec![in alloc;
-            Act::File(FileOp::Mov, Name::B, Dest::W),
-            Act::File(op, Name::A, Dest::W),
-            Act::Store(Name::To),
-        ]?)
+        ])?;
     }
+    Ok(acts)
 }

@@ -5,11 +5,11 @@ ghost use Rattle.byte_ops.specs.Kinds.{IsOp};
 ghost use Rattle.op_templates.specs.Templates.{has_template, template_of};
 
 use crate::comparisons::comparison;
-use crate::moves::{bits, choice, complement, copy, negation, set};
+use crate::moves::{bits, choice, made_of_a, negation, set};
 use crate::shifts::shift;
 use crate::sums::sum;
 use byte_ops::Op;
-use code_acts::Act;
+use code_acts::{Act, FileOp};
 use std::alloc::{AllocError, Global};
 
 /// The template of an operation, any but a product: acts that do it for the bytes that have its names. The cells of the operation
@@ -21,8 +21,8 @@ pub fn template(alloc: Global, op: &Op) -> Result<Vec<Act>, AllocError>
 {
     match *op {
         Op::Set { k, .. } => set(alloc, k),
-        Op::Copy { .. } => copy(alloc),
-        Op::Com { .. } => complement(alloc),
+        Op::Copy { .. } => made_of_a(alloc, FileOp::Mov),
+        Op::Com { .. } => made_of_a(alloc, FileOp::Com),
         Op::Not { .. } => negation(alloc),
         Op::Bits { f, .. } | Op::Logic { f, .. } => bits(alloc, f),
         Op::Sum { f, wide, .. } => sum(alloc, f, wide),
