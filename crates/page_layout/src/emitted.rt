@@ -71,37 +71,17 @@ fn push_ahead(
 fn may_skip(i: Instr) -> bool
     ensures { result ≡ is_skip i }
 {
-    match i {
-        Instr::Btfsc { .. } | Instr::Btfss { .. } | Instr::Decfsz { .. } | Instr::Incfsz { .. } =>
-            true,
-        _ => false,
-    }
+    matches!(
+        i,
+        Instr::Btfsc { .. } | Instr::Btfss { .. } | Instr::Decfsz { .. } | Instr::Incfsz { .. }
+    )
 }
 
 // Whether the item is an instruction that may skip the next one.
 fn holds(item: Item) -> bool
     ensures { result ≡ skips item }
 {
-    match item {
-        Item::Ins(i) => may_skip(i),
-        _ => false,
-    }
-}
-
-// Adds an instruction, and before one that may skip the next the page settings of a jump directly behind it.
-fn push_instruction(
-    code: &mut List<Instr>,
-    i: Instr,
-    rest: &[Item],
-    paged: bool,
-    marks: &[u16],
-) -> Result<(), AllocError>
-    ensures { OnOk result (code.new ≡ code.old ++ instructions_of (places marks.now) (lines_of false paged (Item.Ins i) (ahead paged rest.now))) }
-{
-    if may_skip(i) {
-        push_ahead(code, rest, paged, marks)?;
-    }
-    code.push(i)
+    matches!(item, Item::Ins(i) if may_skip(i))
 }
 
 // Adds a jump, with its page settings where they don't stand before a skip instruction already.
@@ -121,7 +101,8 @@ fn push_jump(
     code.push(Instr::Goto { k: target % 2048 })
 }
 
-// Adds the instructions of an item. `rest` are the items behind it, and `held` tells that a skip instruction is before it.
+// Adds the instructions of an item. `rest` are the items behind it, and `held` tells that a skip instruction is before it. Before
+// an instruction that may skip the next one stand the page settings of a jump directly behind it.
 fn push_item(
     code: &mut List<Instr>,
     item: Item,
@@ -134,7 +115,12 @@ fn push_item(
 {
     match item {
         Item::Mark(_) => Ok(()),
-        Item::Ins(i) => push_instruction(code, i, rest, paged, marks),
+        Item::Ins(i) => {
+            if may_skip(i) {
+                push_ahead(code, rest, paged, marks)?;
+            }
+            code.push(i)
+        }
         Item::Jump(m) => push_jump(code, m, held, paged, marks),
     }
 }
