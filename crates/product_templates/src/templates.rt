@@ -9,24 +9,18 @@ use frp_tree::BinOp;
 use pic_isa::Dest;
 use std::alloc::{AllocError, Global};
 
-// A byte plus W, in its place.
-fn add_to(name: Name) -> Act
-    ensures { result ≡ Act.File FileOp.Add name Dest.F }
+// An operation on a byte, in its place.
+fn in_place(op: FileOp, name: Name) -> Act
+    ensures { result ≡ Act.File op name Dest.F }
 {
-    Act::File(FileOp::Add, name, Dest::F)
+    Act::File(op, name, Dest::F)
 }
 
-// A byte to W, and a byte turned left.
+// A byte to W.
 fn load(name: Name) -> Act
     ensures { result ≡ Act.File FileOp.Mov name Dest.W }
 {
     Act::File(FileOp::Mov, name, Dest::W)
-}
-
-fn left(name: Name) -> Act
-    ensures { result ≡ Act.File FileOp.Left name Dest.F }
-{
-    Act::File(FileOp::Left, name, Dest::F)
 }
 
 fn add_taking(acts: &mut Vec<Act>, y: Name, i: u8) -> Result<(), AllocError>
@@ -35,16 +29,16 @@ fn add_taking(acts: &mut Vec<Act>, y: Name, i: u8) -> Result<(), AllocError>
 {
     acts.extend_from_slice(&[
         Act::SkipBit(false, y, i),
-        add_to(Name::Operand5),
+        in_place(FileOp::Add, Name::Operand5),
         Act::SkipBit(false, y, i + 4),
-        add_to(Name::Operand6),
+        in_place(FileOp::Add, Name::Operand6),
     ])
 }
 
 fn add_doubling(acts: &mut Vec<Act>, x: Name) -> Result<(), AllocError>
     ensures { OnOk result (acts.new.items ≡ acts.old.items ++ doubling x) }
 {
-    acts.extend_from_slice(&[add_to(x), load(x)])
+    acts.extend_from_slice(&[in_place(FileOp::Add, x), load(x)])
 }
 
 fn add_weighing(acts: &mut Vec<Act>, x: Name, y: Name) -> Result<(), AllocError>
@@ -65,7 +59,7 @@ fn add_folding(acts: &mut Vec<Act>) -> Result<(), AllocError>
     acts.extend_from_slice(&[
         Act::File(FileOp::Swap, Name::Operand6, Dest::W),
         Act::Const(ConstOp::AndK, 0xF0),
-        add_to(Name::Operand5),
+        in_place(FileOp::Add, Name::Operand5),
     ])
 }
 
@@ -74,9 +68,9 @@ fn add_carrying(acts: &mut Vec<Act>, i: u8) -> Result<(), AllocError>
 {
     acts.extend_from_slice(&[
         Act::SkipBit(false, Name::Operand2, i),
-        add_to(Name::Operand5),
-        Act::File(FileOp::Right, Name::Operand5, Dest::F),
-        Act::File(FileOp::Right, Name::Operand4, Dest::F),
+        in_place(FileOp::Add, Name::Operand5),
+        in_place(FileOp::Right, Name::Operand5),
+        in_place(FileOp::Right, Name::Operand4),
     ])
 }
 
@@ -137,9 +131,9 @@ fn turn() -> [Act; 9]
     ensures { result ≡ turning }
 {
     [
-        left(Name::Operand0),
-        left(Name::Operand4),
-        left(Name::Operand8), // The ninth bit of the rest.
+        in_place(FileOp::Left, Name::Operand0),
+        in_place(FileOp::Left, Name::Operand4),
+        in_place(FileOp::Left, Name::Operand8), // The ninth bit of the rest.
         load(Name::Operand3),
         Act::File(FileOp::Sub, Name::Operand4, Dest::W),
         Act::SkipBit(false, Name::Operand8, 0),
@@ -153,11 +147,11 @@ fn wide_turn() -> [Act; 22]
     ensures { result ≡ wide_turning }
 {
     [
-        left(Name::Operand0),
-        left(Name::Operand1),
-        left(Name::Operand4),
-        left(Name::Operand5),
-        left(Name::Operand8), // The seventeenth bit of the rest.
+        in_place(FileOp::Left, Name::Operand0),
+        in_place(FileOp::Left, Name::Operand1),
+        in_place(FileOp::Left, Name::Operand4),
+        in_place(FileOp::Left, Name::Operand5),
+        in_place(FileOp::Left, Name::Operand8), // The seventeenth bit of the rest.
         load(Name::Operand2),
         Act::File(FileOp::Sub, Name::Operand4, Dest::W),
         Act::Store(Name::Operand6), // The lower byte of the difference.
@@ -166,7 +160,7 @@ fn wide_turn() -> [Act; 22]
         load(Name::Operand3),
         Act::SkipCarry(true),
         Act::File(FileOp::IncSkip, Name::Operand3, Dest::W),
-        Act::File(FileOp::Sub, Name::Operand7, Dest::F),
+        in_place(FileOp::Sub, Name::Operand7),
         Act::SkipBit(false, Name::Operand8, 0),
         Act::MakeCarry(true),
         load(Name::Operand7),
@@ -200,11 +194,14 @@ fn add_core(acts: &mut Vec<Act>, f: BinOp, wide: bool) -> Result<(), AllocError>
         (BinOp::Mul, true) => add_wide_product(acts),
         (BinOp::Div, false) => {
             add_dividing(acts)?;
-            acts.extend_from_slice(&[left(Name::Operand0)])
+            acts.extend_from_slice(&[in_place(FileOp::Left, Name::Operand0)])
         }
         (BinOp::Div, true) => {
             add_wide_dividing(acts)?;
-            acts.extend_from_slice(&[left(Name::Operand0), left(Name::Operand1)])
+            acts.extend_from_slice(&[
+                in_place(FileOp::Left, Name::Operand0),
+                in_place(FileOp::Left, Name::Operand1),
+            ])
         }
         (BinOp::Rem, false) => add_dividing(acts),
         (BinOp::Rem, true) => add_wide_dividing(acts),
