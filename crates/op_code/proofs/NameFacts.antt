@@ -95,13 +95,7 @@ same_name f (x ∷ xs) n m differ is also same =
 -- The address of a name is that of its cell.
 abbrev far_place : Places → ℕ → ℕ
 far_place places n =
-    if n == 12 then places.to
-    else if n == 13 then places.to_high
-    else if n == 14 then places.a
-    else if n == 15 then places.a_high
-    else if n == 16 then places.b
-    else if n == 17 then places.b_high
-    else places.c
+    cell_at (record { to = places.to; to_high = places.to_high; a = places.a; a_high = places.a_high; b = places.b; b_high = places.b_high; c = places.c }) n
 
 picked : (f : ℕ → ℕ) (s t u v w x : Bool) (c d e g h i j : ℕ)
     → (if s then f c else if t then f d else if u then f e else if v then f g else if w then f h else if x then f i else f j)
@@ -119,41 +113,31 @@ place-cell need cells n is =
     ap (λ b. if b then 0x74 + n else far_place (addresses_of need cells) n) is
     ∙ picked (address_of need) (n == 12) (n == 13) (n == 14) (n == 15) (n == 16) (n == 17) cells.to cells.to_high cells.a cells.a_high cells.b cells.b_high cells.c
 
--- The cells of an operation are those of its names.
+-- The cells of an operation are those of its names: those that it reads, and those that it writes.
+cells-of : (op : Op)
+    → (read_by op ≡ map (cell_at (named_by op)) (read_by (named op))) × (written_by op ≡ map (cell_at (named_by op)) (written_by (named op)))
+cells-of (Set to k) = (refl, refl)
+cells-of (Copy to a) = (refl, refl)
+cells-of (Com to a) = (refl, refl)
+cells-of (Not to a) = (refl, refl)
+cells-of (Bits f to a b) = (refl, refl)
+cells-of (Sum f true to a b) = (refl, refl)
+cells-of (Sum f false to a b) = (refl, refl)
+cells-of (Compare f true to a b) = (refl, refl)
+cells-of (Compare f false to a b) = (refl, refl)
+cells-of (Logic f to a b) = (refl, refl)
+cells-of (Choose true to c a b) = (refl, refl)
+cells-of (Choose false to c a b) = (refl, refl)
+cells-of (Shift side true n to a) = (refl, refl)
+cells-of (Shift side false n to a) = (refl, refl)
+cells-of (Product f true to a b) = (refl, refl)
+cells-of (Product f false to a b) = (refl, refl)
+
 pub read-cells : (op : Op) → read_by op ≡ map (cell_at (named_by op)) (read_by (named op))
-read-cells (Set to k) = refl
-read-cells (Copy to a) = refl
-read-cells (Com to a) = refl
-read-cells (Not to a) = refl
-read-cells (Bits f to a b) = refl
-read-cells (Sum f true to a b) = refl
-read-cells (Sum f false to a b) = refl
-read-cells (Compare f true to a b) = refl
-read-cells (Compare f false to a b) = refl
-read-cells (Logic f to a b) = refl
-read-cells (Choose true to c a b) = refl
-read-cells (Choose false to c a b) = refl
-read-cells (Shift side true n to a) = refl
-read-cells (Shift side false n to a) = refl
-read-cells (Product f true to a b) = refl
-read-cells (Product f false to a b) = refl
+read-cells op = (cells-of op).0
 
 pub written-cells : (op : Op) → written_by op ≡ map (cell_at (named_by op)) (written_by (named op))
-written-cells (Set to k) = refl
-written-cells (Copy to a) = refl
-written-cells (Com to a) = refl
-written-cells (Not to a) = refl
-written-cells (Bits f to a b) = refl
-written-cells (Sum f true to a b) = refl
-written-cells (Sum f false to a b) = refl
-written-cells (Compare f wide to a b) = refl
-written-cells (Logic f to a b) = refl
-written-cells (Choose true to c a b) = refl
-written-cells (Choose false to c a b) = refl
-written-cells (Shift side true n to a) = refl
-written-cells (Shift side false n to a) = refl
-written-cells (Product f true to a b) = refl
-written-cells (Product f false to a b) = refl
+written-cells op = (cells-of op).1
 
 pub all-cells : (op : Op) → cells_of_op op ≡ map (cell_at (named_by op)) (cells_of_op (named op))
 all-cells op =
