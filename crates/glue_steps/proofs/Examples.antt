@@ -1,0 +1,2 @@
+-- Glue, computed.
+mod Pieces

@@ -1,0 +1,5 @@
+pub mod Laws
+pub mod Lines
+pub mod Still
+pub mod Stretches
+pub mod Tells

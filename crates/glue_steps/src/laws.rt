@@ -1,0 +1,60 @@
+// Laws of glue. Each is the contract of a function that does nothing.
+
+ghost use Rattle.std.specs.Prelude.{ℕ, Bool, List as Items};
+ghost use Rattle.code_items.specs.declared.items.Item.{Item as AnyItem};
+ghost use Rattle.glue_steps.specs.Laws.{ArrivesBehind, BoundaryTold, FlagBehind, Glue, GoesOn, LineLeaves, LinesStand, Longer, OneThenOther, Straight};
+ghost use Rattle.glue_steps.specs.Stretches.{BankBits};
+ghost use Rattle.glue_steps.specs.declared.lines.Line.{Line as AnyLine};
+ghost use Rattle.pic_isa.specs.declared.sources.Source.{Source as AnySource};
+ghost use Rattle.pic_machine.specs.Boundary.{Outer};
+ghost use Rattle.pic_machine.specs.Chip.{Chip};
+ghost use Rattle.pic_machine.specs.declared.steps.PortWrite.{PortWrite as AnyPut};
+
+/// Code that comes to something within some steps comes to it within more.
+pub fn may_take_longer()
+    ensures { (program : ℕ → ℕ) (glue : Glue) (test : Chip → Bool) (puts : Items AnyPut) (k m : ℕ) (c : Chip) → Longer program glue test puts k m c }
+{}
+
+/// Where sources have arrived and pins have changed, code goes on as from the chip before.
+pub fn goes_on_after_arrivals()
+    ensures { (program : ℕ → ℕ) (glue : Glue) (test : Chip → Bool) (puts : Items AnyPut) (k : ℕ) (c d : Chip) → GoesOn program glue test puts k c d }
+{}
+
+/// One piece of code after another puts its bytes behind those of the first.
+pub fn one_after_the_other()
+    ensures { (program : ℕ → ℕ) (glue : Glue) (first second : Chip → Bool) (puts later : Items AnyPut) (k m : ℕ) (c : Chip)
+        → OneThenOther program glue first second puts later k m c }
+{}
+
+/// At a boundary where none is due and GIE is clear, code takes its own step, whether an interrupt is late or not.
+pub fn takes_its_own_step()
+    ensures { (program : ℕ → ℕ) (glue : Glue) (test : Chip → Bool) (puts : Items AnyPut) (k : ℕ) (c : Chip) (outer : Outer)
+        → BoundaryTold program glue test puts k c outer }
+{}
+
+/// A line whose register is reached leaves what it did.
+pub fn line_leaves()
+    ensures { (known : BankBits) (line : AnyLine) (c : Chip) → LineLeaves known line c }
+{}
+
+/// Arrivals before a line are arrivals behind it.
+pub fn arrives_behind()
+    ensures { (line : AnyLine) (c d : Chip) → ArrivesBehind line c d }
+{}
+
+/// A line clears the flag of a source alone that it is told to clear, and sets none.
+pub fn clears_one_flag()
+    ensures { (line : AnyLine) (source : AnySource) (c : Chip) → FlagBehind line source c }
+{}
+
+/// Lines that stand from the program counter on come to what they leave, and put what they put, whatever arrives on the way.
+pub fn straight_on()
+    ensures { (program : ℕ → ℕ) (glue : Glue) (test : Chip → Bool) (known : BankBits) (p : ℕ) (lines : Items AnyLine) (c : Chip)
+        → Straight program glue test known p lines c }
+{}
+
+/// Lines that stand as items before others stand as instructions, and the others behind them.
+pub fn lines_stand()
+    ensures { (paged : Bool) (program marks : ℕ → ℕ) (p q : ℕ) (known : BankBits) (lines : Items AnyLine) (items : Items AnyItem)
+        → LinesStand paged program marks p q known lines items }
+{}
