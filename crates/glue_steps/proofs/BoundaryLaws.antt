@@ -1,5 +1,5 @@
 -- Own steps of glue as boundaries of the chip: with GIE clear none is requested, so a late interrupt changes nothing.
-use Rattle.std.proofs.Common.{◌≡◌, ℕ, suc, ◌⊎◌, Bool, false, ◌&&◌, ◌||◌, Option, Some, None, List, [], ap, ◌∙◌, sym, subst, inl, inr}
+use Rattle.std.proofs.Common.{◌≡◌, ℕ, Bool, false, ◌&&◌, ◌||◌, Option, Some, None, List, ap, ◌∙◌, sym, subst, inl, inr}
 use Rattle.std.specs.List.{cons_option}
 use Rattle.pic_isa.specs.declared.instructions.Instr.{Instr}
 use Rattle.pic_isa.specs.Instructions.{instruction_of}
@@ -17,7 +17,7 @@ use Rattle.code_steps.proofs.BetweenLaws.{arrival_alone}
 use Rattle.code_steps.proofs.OwnLaws.{turned, own_boundary}
 use Rattle.glue_steps.specs.Still.{Off}
 use Rattle.glue_steps.specs.Tells.{Tells}
-use Rattle.glue_steps.specs.Laws.{Glue, StillIn, Passes, StepTold, BoundaryTold}
+use Rattle.glue_steps.specs.Laws.{Glue, StillIn, Passes, BoundaryTold}
 
 -- An own step leaves whether an interrupt is due.
 due_by : (o : Option Instr) (d : Chip) (done : Done) → own_of o d ≡ Some done → done.chip.due ≡ d.due

@@ -4,7 +4,7 @@ use Rattle.pic_isa.specs.declared.instructions.Instr.{Instr}
 use Rattle.pic_machine.specs.declared.steps.PortWrite.{PortWrite}
 use Rattle.pic_machine.specs.Chip.{Chip}
 use Rattle.pic_machine.specs.Results.{Done}
-use Rattle.code_steps.specs.Steps.{next, Comes}
+use Rattle.code_steps.specs.Steps.{next}
 use Rattle.code_steps.specs.Between.{Alone, placed_at}
 use Rattle.code_steps.specs.Jumps.{arrives, Reaches, IsTest, Tested}
 use Rattle.code_steps.proofs.BetweenLaws.{alone_frame}

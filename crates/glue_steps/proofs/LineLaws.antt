@@ -1,5 +1,5 @@
 -- Lines of glue: their own steps, and that arrivals before a line are arrivals behind it.
-use Rattle.std.proofs.Common.{◌≡◌, ℕ, zero, suc, ◌+◌, ◌*◌, ◌%◌, Bool, true, false, not, ◌==◌, ◌&&◌, ◌||◌, if◌then◌else◌, Option, Some, None, ap, ap₂, ◌∙◌, sym, refl, subst, arith}
+use Rattle.std.proofs.Common.{◌≡◌, ℕ, zero, suc, ◌+◌, ◌*◌, Bool, true, false, not, ◌==◌, ◌&&◌, ◌||◌, if◌then◌else◌, Option, Some, None, ap, ap₂, ◌∙◌, sym, refl, subst, arith}
 use Rattle.std.specs.Prelude.{nat_le}
 use Rattle.std.proofs.lemmas.Bool.{ne_eqb}
 use Rattle.pic_isa.specs.declared.instructions.Dest.TheVariants.{W}
@@ -11,7 +11,7 @@ use Rattle.pic_isa.specs.Sources.{flag_of}
 use Rattle.pic_regs.specs.declared.places.Place.{Place}
 use Rattle.pic_regs.specs.declared.places.Place.TheVariants as place
 use Rattle.pic_regs.specs.Bytes.{Byte, bit, with_bit, zeros, one_if}
-use Rattle.pic_regs.specs.Map.{Reg, Absent, Indf, Pcl, Intcon, Pir1, Pir2, Port, Status, reg_at, reg_in}
+use Rattle.pic_regs.specs.Map.{Reg, Indf, Pcl, Intcon, Pir1, Pir2, Port, Status, reg_at, reg_in}
 use Rattle.pic_regs.specs.Places.{reg_of}
 use Rattle.pic_regs.specs.Registers.{Registers, read, flag}
 use Rattle.pic_regs.specs.Single.{only}

@@ -1,5 +1,5 @@
 -- Steps of glue: those of lines, those of work with interrupts off, and that GIE stays clear.
-use Rattle.std.proofs.Common.{◌≡◌, ℕ, zero, suc, ◌+◌, ◌⊎◌, Bool, true, false, not, ◌==◌, ◌&&◌, if◌then◌else◌, Option, Some, None, IfSome, List, [], ◌∷◌, ap, ◌∙◌, sym, refl, subst, arith, inl, inr}
+use Rattle.std.proofs.Common.{◌≡◌, ℕ, zero, suc, ◌+◌, ◌⊎◌, Bool, true, false, ◌==◌, ◌&&◌, if◌then◌else◌, Option, Some, None, IfSome, List, [], ◌∷◌, ap, ◌∙◌, sym, refl, subst, arith, inl, inr}
 use Rattle.std.specs.Prelude.{nat_le}
 use Rattle.std.proofs.lemmas.Bool.{and_parts, eqb-true, leb-true}
 use Rattle.pic_isa.specs.declared.instructions.Instr.{Instr}
@@ -8,20 +8,19 @@ use Rattle.pic_isa.specs.declared.sources.Source.{Source}
 use Rattle.pic_isa.specs.Instructions.{instruction_of}
 use Rattle.pic_regs.specs.declared.places.Place.{Place}
 use Rattle.pic_regs.specs.declared.places.Place.TheVariants as place
-use Rattle.pic_regs.specs.Bytes.{Byte, bit, with_bit, zeros, updated}
+use Rattle.pic_regs.specs.Bytes.{Byte, with_bit, zeros}
 use Rattle.pic_regs.specs.Map.{Reg, Absent, Indf, Pcl, Status, Fsr, Pclath, Intcon, Pir1, Pir2, Pie1, Pie2, Port, Tris, Plain, over}
 use Rattle.pic_regs.specs.Places.{reg_of}
 use Rattle.pic_regs.specs.Registers.{read, flag}
 use Rattle.pic_machine.specs.Chip.{Chip, advanced}
-use Rattle.pic_machine.specs.Results.{Done, Outcome, Flags, Same, Zero, Carry, All, just, tested, with_flags, status_byte, flagged, stored, written}
+use Rattle.pic_machine.specs.Results.{Done, Outcome, Flags, Same, Zero, Carry, All, just, tested, with_flags, status_byte, stored, written}
 use Rattle.code_steps.specs.Steps.{next, Is}
-use Rattle.code_steps.specs.Between.{Alone}
 use Rattle.glue_steps.specs.declared.lines.Line.{Line}
-use Rattle.glue_steps.specs.declared.lines.Line.TheVariants.{Constant, Load, Store, Clear, Bit, Lower, Skip, Nothing}
-use Rattle.glue_steps.specs.Tells.{Tells, Withstands, Given}
+use Rattle.glue_steps.specs.declared.lines.Line.TheVariants.{Load, Store, Clear, Bit, Lower, Skip}
+use Rattle.glue_steps.specs.Tells.{Withstands, Given}
 use Rattle.glue_steps.specs.Still.{with_glue_of, own_byte, MayWrite, Off, Still, is_glue_reg, is_still, target_of, StillAll}
-use Rattle.glue_steps.specs.Lines.{instr_of, did, ran, is_glue, takes_byte}
-use Rattle.glue_steps.specs.Stretches.{Fits, Grants, GrantsAll, may_skip, moves_bank, bank_behind, BankBits}
+use Rattle.glue_steps.specs.Lines.{instr_of, did, ran}
+use Rattle.glue_steps.specs.Stretches.{Grants, GrantsAll}
 
 pub off_stays : Withstands Off
 off_stays c d r off = ap (λ (x : Chip). x.regs.intcon.b7) r.only ∙ off

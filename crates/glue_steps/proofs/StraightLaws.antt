@@ -1,7 +1,6 @@
 -- Lines one after another come to what they leave, and put what they put.
-use Rattle.std.proofs.Common.{◌≡◌, ℕ, zero, suc, ◌+◌, ◌%◌, ◌≤◌, ◌<◌, Bool, true, false, not, ◌&&◌, if◌then◌else◌, Option, Some, None, List, [], ◌∷◌, ◌++◌, length, map, ap, ◌∙◌, sym, refl, subst, arith, inl, inr}
+use Rattle.std.proofs.Common.{◌≡◌, ℕ, suc, ◌+◌, ◌%◌, ◌<◌, Bool, true, false, not, ◌&&◌, if◌then◌else◌, List, [], ◌∷◌, length, map, ap, ◌∙◌, sym, refl, subst, arith, inr}
 use Rattle.std.specs.List.{cons_option}
-use Rattle.std.proofs.lemmas.Bool.{and_parts}
 use Rattle.pic_machine.specs.declared.steps.PortWrite.{PortWrite}
 use Rattle.pic_machine.specs.Chip.{Chip}
 use Rattle.pic_machine.specs.Results.{Done}
@@ -17,10 +16,10 @@ use Rattle.code_items.proofs.StandLaws.{stands-parts}
 use Rattle.code_acts.specs.Standing.{StandFrom}
 use Rattle.code_acts.proofs.PartLaws.{stand_of_items}
 use Rattle.glue_steps.specs.declared.lines.Line.{Line}
-use Rattle.glue_steps.specs.declared.lines.Line.TheVariants.{Constant, Load, Store, Clear, Bit, Lower, Skip, Nothing}
+use Rattle.glue_steps.specs.declared.lines.Line.TheVariants.{Constant, Bit, Skip}
 use Rattle.glue_steps.specs.Tells.{Tells, Withstands}
 use Rattle.glue_steps.specs.Lines.{instr_of, item_of, skips, did, ran, is_glue}
-use Rattle.glue_steps.specs.Stretches.{ran_all, puts_of, BankBits, IsKnown, Banked, may_skip, moves_bank, bank_behind, Fits, GrantsAll, place_behind}
+use Rattle.glue_steps.specs.Stretches.{ran_all, puts_of, BankBits, Banked, may_skip, moves_bank, bank_behind, Fits, GrantsAll, place_behind}
 use Rattle.glue_steps.specs.Laws.{LinesStand}
 use Rattle.glue_steps.proofs.TellsLaws.{tells_longer, tells_moves}
 use Rattle.glue_steps.proofs.LineLaws.{line_is, line_place, banked_same, banked_behind, same_bank, ran_alone, put_alone}

@@ -1,6 +1,5 @@
 -- Stretches of glue: lines that stand from the program counter on, with steps of glue.
 use Rattle.std.proofs.Common.{◌≡◌, ℕ, Bool, true, false, List, [], length, map}
-use Rattle.pic_machine.specs.declared.steps.PortWrite.{PortWrite}
 use Rattle.pic_machine.specs.Chip.{Chip}
 use Rattle.code_acts.specs.Standing.{StandFrom}
 use Rattle.glue_steps.specs.declared.lines.Line.{Line}

@@ -1,11 +1,11 @@
 -- What code with interrupts off leads to: in more steps, with weaker promises, one piece after another, from a chip at which
 -- sources have arrived, and what all of its steps keep.
-use Rattle.std.proofs.Common.{◌≡◌, ℕ, zero, suc, ◌+◌, ◌≤◌, ◌⊎◌, Option, Some, None, List, [], ◌∷◌, ◌++◌, ap, ◌∙◌, sym, refl, subst, arith, inl, inr}
+use Rattle.std.proofs.Common.{◌≡◌, ℕ, zero, suc, ◌+◌, ◌≤◌, Option, Some, None, List, [], ◌++◌, ap, ◌∙◌, sym, refl, subst, arith, inl, inr}
 use Rattle.std.specs.List.{cons_option}
 use Rattle.pic_machine.specs.declared.steps.PortWrite.{PortWrite}
 use Rattle.pic_machine.specs.Chip.{Chip}
 use Rattle.pic_machine.specs.Results.{Done}
-use Rattle.code_steps.specs.Steps.{own, Comes}
+use Rattle.code_steps.specs.Steps.{Comes}
 use Rattle.code_steps.specs.Between.{Alone}
 use Rattle.code_steps.proofs.BetweenLaws.{alone_frame}
 use Rattle.glue_steps.specs.Tells.{Tells, Withstands, Given}

@@ -1,6 +1,6 @@
 -- What the laws of `laws.rt` promise of glue.
 use Rattle.std.specs.Prelude.{◌≡◌, ℕ, suc, ◌+◌, ◌<◌, ◌≤◌, Bool, true, false, ◌&&◌, ◌⊎◌, Some, List, [], ◌++◌, length, map}
-use Rattle.std.specs.List.{AllByRecursion, cons_option}
+use Rattle.std.specs.List.{cons_option}
 use Rattle.pic_isa.specs.declared.sources.Source.{Source}
 use Rattle.pic_regs.specs.Registers.{flag}
 use Rattle.pic_machine.specs.declared.steps.Did.TheVariants.{Ran}

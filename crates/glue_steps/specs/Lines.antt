@@ -1,11 +1,10 @@
 -- Lines of glue: the instruction of each, what it leaves, and which lines depend on no flag and no pin.
-use Rattle.std.specs.Prelude.{ℕ, ◌%◌, Bool, true, false, not, nat_le, Option, Some, None}
+use Rattle.std.specs.Prelude.{ℕ, ◌%◌, Bool, true, false, not, nat_le, Some, None}
 use Rattle.pic_isa.specs.declared.instructions.Dest.TheVariants.{W}
 use Rattle.pic_isa.specs.declared.instructions.Instr.{Instr}
 use Rattle.pic_isa.specs.declared.instructions.Instr.TheVariants.{Bcf, Bsf, Clrf, Movf, Movlw, Movwf, Nop}
 use Rattle.pic_isa.specs.declared.sources.Source.{Source}
 use Rattle.pic_isa.specs.Sources.{flag_of}
-use Rattle.pic_regs.specs.declared.places.Place.TheVariants as place
 use Rattle.pic_regs.specs.Bytes.{Byte, bits, bit, with_bit, zeros, is_zero}
 use Rattle.pic_regs.specs.Map.{Reg, Intcon, Fsr, Pclath, Pie1, Pie2, Plain, Port, Status, Tris, lowest, reg_at}
 use Rattle.pic_regs.specs.Places.{IsPlace, reg_of}

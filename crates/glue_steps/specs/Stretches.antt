@@ -13,7 +13,7 @@ use Rattle.code_steps.specs.declared.banks.Bank.{Bank}
 use Rattle.code_steps.specs.Steps.{next, Is}
 use Rattle.code_acts.specs.Codes.{low_bit, high_bit}
 use Rattle.glue_steps.specs.declared.lines.Line.{Line}
-use Rattle.glue_steps.specs.declared.lines.Line.TheVariants.{Constant, Load, Store, Clear, Bit, Lower, Skip, Nothing}
+use Rattle.glue_steps.specs.declared.lines.Line.TheVariants.{Load, Store, Clear, Bit, Lower, Skip}
 use Rattle.glue_steps.specs.Lines.{field_of, instr_of, skips, did, ran, is_glue}
 
 -- The chip after lines, the first of which is skipped where `skipped` holds: then the chip is behind it already.

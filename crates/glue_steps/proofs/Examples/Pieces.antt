@@ -1,21 +1,19 @@
 -- A piece of glue, computed: a flag cleared, two bytes copied, one put on a port, a bit set; and a skip.
-use Rattle.std.proofs.Common.{◌≡◌, ℕ, ◌+◌, ◌%◌, ◌≤◌, ◌<◌, Bool, true, false, not, List, [], ◌∷◌, length, map, ap, ◌∙◌, refl, arith, lit≤, lit<}
+use Rattle.std.proofs.Common.{◌≡◌, ℕ, ◌+◌, ◌%◌, ◌≤◌, ◌<◌, true, false, not, List, [], ◌∷◌, map, ap, ◌∙◌, refl, arith, lit≤, lit<}
 use Rattle.pic_isa.specs.declared.instructions.Dest.TheVariants.{W}
-use Rattle.pic_isa.specs.declared.instructions.Instr.TheVariants.{Bcf, Bsf, Btfsc, Movf, Movwf}
-use Rattle.pic_isa.specs.declared.sources.Source.TheVariants.{T0, Ccp2}
+use Rattle.pic_isa.specs.declared.instructions.Instr.TheVariants.{Bcf, Bsf, Movf, Movwf}
+use Rattle.pic_isa.specs.declared.sources.Source.TheVariants.{T0}
 use Rattle.pic_regs.specs.declared.places.Place.TheVariants as place
 use Rattle.pic_regs.specs.Bytes.{num}
 use Rattle.pic_machine.specs.Chip.{Chip, advanced, skipping}
-use Rattle.pic_machine.specs.declared.steps.PortWrite.{PortWrite}
 use Rattle.code_steps.specs.declared.banks.Bank.TheVariants.{Known}
 use Rattle.code_acts.specs.Standing.{StandFrom}
 use Rattle.glue_steps.specs.declared.lines.Line.{Line}
-use Rattle.glue_steps.specs.declared.lines.Line.TheVariants.{Constant, Load, Store, Clear, Bit, Lower, Skip}
+use Rattle.glue_steps.specs.declared.lines.Line.TheVariants.{Load, Store, Clear, Bit, Lower, Skip}
 use Rattle.glue_steps.specs.Tells.{Tells}
 use Rattle.glue_steps.specs.Lines.{instr_of, is_glue}
 use Rattle.glue_steps.specs.Still.{Off, Still}
 use Rattle.glue_steps.specs.Stretches.{ran_all, puts_of, bits_of_bank, Banked, Fits}
-use Rattle.glue_steps.proofs.StraightLaws.{straight}
 use Rattle.glue_steps.proofs.StretchLaws.{straight_still}
 
 -- The flag of T0 is cleared, 20h and 21h are copied to 22h and 23h, 22h is put on port B, and bit 0 of 70h is set.
@@ -62,8 +60,7 @@ told : (program : ℕ → ℕ) (c : Chip) → StandFrom program 20 (map instr_of
 told program c stand at banked off =
     straight_still program InPiece (λ a. 0 < a) (λ e. (e.pc ≡ 27) × (e.regs.plain 0x22 ≡ c.regs.plain 0x20))
     (λ d e r q. (ap (λ (x : Chip). x.pc) r.only ∙ q.0, ap (λ (x : Chip). x.regs.plain 0x22) r.only ∙ q.1))
-    (bits_of_bank (Known 0)) 20 copies c copies_fit stand
-    (
+    (bits_of_bank (Known 0)) 20 copies c copies_fit stand (
       refl,
       inside 0 (lit≤ tt),
       tt,
