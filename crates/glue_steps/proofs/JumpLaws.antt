@@ -16,15 +16,13 @@ use Rattle.code_items.specs.Jumping.{at_skip}
 use Rattle.code_items.specs.Lines.{Does, Goes, settings, Stands, Within}
 use Rattle.code_items.proofs.LineLaws.{ending}
 use Rattle.code_items.proofs.JumpLaws.{jump_comes, skip_comes, only_jump, only_skip}
-use Rattle.glue_steps.specs.Tells.{Tells, Withstands}
-use Rattle.glue_steps.proofs.TellsLaws.{tells_moves, tells_then, tells_comes}
-
--- The words of a jump, and of a skip instruction and a jump, lie at places with In.
-abbrev pub JumpWithin : (In : ℕ → Type 0) → Bool → (p m : ℕ) → Type 0
-JumpWithin In paged p m = Within In p (settings paged m ++ Goes m ∷ [])
-
-abbrev pub SkipWithin : (In : ℕ → Type 0) → Bool → (p m : ℕ) → Instr → Type 0
-SkipWithin In paged p m i = Within In p (settings paged m ++ Does i ∷ Goes m ∷ [])
+use Rattle.glue_steps.specs.Tells.{Tells, Withstands, Given}
+use Rattle.glue_steps.specs.Still.{Off, Still}
+use Rattle.glue_steps.specs.Jumping.{JumpWithin, SkipWithin}
+use Rattle.glue_steps.specs.Laws.{Glue, JumpTold, SkipTold}
+use Rattle.glue_steps.specs.Laws.{Passes as IsPassed}
+use Rattle.glue_steps.proofs.TellsLaws.{tells_moves, tells_wider, tells_then, tells_comes, tells_given}
+use Rattle.glue_steps.proofs.StillLaws.{off_stays, still_off, still_passes, still_settings}
 
 module _ (program marks : ℕ → ℕ) (G : Chip → Done → Type 0) (Q : Chip → Type 0) (stays : Withstands Q) (In : ℕ → Type 0) (passes : Passes In G) (paged : Bool)
     (sets : paged ≡ true → PassesSettings In G) where
@@ -66,3 +64,31 @@ module _ (program marks : ℕ → ℕ) (G : Chip → Done → Type 0) (Q : Chip 
           by_way (inl (holds, r)) =
               tells_moves program G Q stays later k (placed_at (next (next (at_skip paged (marks m) c).pc)) found.on.regs.pclath found.on) e r (passed found.on found.between holds)
           by_way (inr (fails, r)) = tells_moves program G Q stays later k (arrives (marks m) found.on) e r (jumped found.on found.between fails)
+
+-- With steps of glue, from a chip with GIE clear.
+given_still : (program : ℕ → ℕ) (In May : ℕ → Type 0) (Q : Chip → Type 0) (puts : List PortWrite) (k : ℕ) (c : Chip)
+    → Tells program (Still program In May) Q puts k c → Tells program (Given Off (Still program In May)) Q puts k c
+given_still program In May Q puts k c told =
+    tells_wider program (Still program In May) (Given Off (Still program In May)) Q Q (λ d done step off. (step, still_off program In May d done step)) (λ e q. q) puts k c told
+
+pub jump_told_at : (paged : Bool) (program marks : ℕ → ℕ) (glue : Glue) (test : Chip → Bool) (p q m : ℕ) (items : List Item) (later : List PortWrite) (k : ℕ) (c : Chip)
+    → JumpTold paged program marks glue test p q m items later k c
+jump_told_at paged program marks glue test p q m items later k c stays none may stands within at off page told =
+    let In : ℕ → Type 0 = λ x. glue.inside x ≡ true in
+    let May : ℕ → Type 0 = λ x. glue.may x ≡ true in
+    let Q : Chip → Type 0 = IsPassed test in
+    tells_given program Off (Still program In May) Q off_stays later (words_of_item paged (Jump m) + k) c off
+    (jump_told program marks (Given Off (Still program In May)) Q stays In (still_passes program In May none) paged (λ e. still_settings program In May none (may e))
+    p q m items later k c stands within at page (given_still program In May Q later k (arrives (marks m) c) told))
+
+pub skip_told_at : (paged : Bool) (program marks : ℕ → ℕ) (glue : Glue) (test skip : Chip → Bool) (p q m : ℕ) (i : Instr) (items : List Item)
+    (later : List PortWrite) (k : ℕ) (c : Chip) → SkipTold paged program marks glue test skip p q m i items later k c
+skip_told_at paged program marks glue test skip p q m i items later k c stays none may is_a_skip stands within at off page tests passed jumped =
+    let In : ℕ → Type 0 = λ x. glue.inside x ≡ true in
+    let May : ℕ → Type 0 = λ x. glue.may x ≡ true in
+    let Q : Chip → Type 0 = IsPassed test in
+    tells_given program Off (Still program In May) Q off_stays later (1 + words_of_item paged (Jump m) + k) c off
+    (skip_told program marks (Given Off (Still program In May)) Q stays In (still_passes program In May none) paged (λ e. still_settings program In May none (may e))
+    skip p q m i items later k c is_a_skip stands within at page tests
+    (λ on r holds. given_still program In May Q later k _ (passed on r holds))
+    (λ on r fails. given_still program In May Q later k _ (jumped on r fails)))

@@ -1,5 +1,5 @@
 -- Lines of glue: their own steps, and that arrivals before a line are arrivals behind it.
-use Rattle.std.proofs.Common.{◌≡◌, ℕ, zero, suc, ◌+◌, ◌*◌, Bool, true, false, not, ◌==◌, ◌&&◌, ◌||◌, if◌then◌else◌, Option, Some, None, ap, ap₂, ◌∙◌, sym, refl, subst, arith}
+use Rattle.std.proofs.Common.{◌≡◌, ℕ, zero, suc, ◌+◌, ◌*◌, Bool, true, false, not, ◌==◌, ◌&&◌, ◌||◌, if◌then◌else◌, Option, Some, None, ap, ap₂, ◌∙◌, sym, refl, subst, arith, lit<, ◌%◌, ◌<◌}
 use Rattle.std.specs.Prelude.{nat_le}
 use Rattle.std.proofs.lemmas.Bool.{ne_eqb}
 use Rattle.pic_isa.specs.declared.instructions.Dest.TheVariants.{W}
@@ -8,10 +8,11 @@ use Rattle.pic_isa.specs.declared.instructions.Instr.TheVariants.{Bcf, Bsf, Btfs
 use Rattle.pic_isa.specs.declared.sources.Source.{Source}
 use Rattle.pic_isa.specs.declared.sources.Source.TheVariants.{T0}
 use Rattle.pic_isa.specs.Sources.{flag_of}
+use Rattle.pic_isa.specs.Instructions.{FieldsFit}
 use Rattle.pic_regs.specs.declared.places.Place.{Place}
 use Rattle.pic_regs.specs.declared.places.Place.TheVariants as place
 use Rattle.pic_regs.specs.Bytes.{Byte, bit, with_bit, zeros, one_if}
-use Rattle.pic_regs.specs.Map.{Reg, Indf, Pcl, Intcon, Pir1, Pir2, Port, Status, reg_at, reg_in}
+use Rattle.pic_regs.specs.Map.{Reg, Indf, Pcl, Intcon, Pir1, Pir2, Port, Status, lowest, reg_at, reg_in}
 use Rattle.pic_regs.specs.Places.{reg_of}
 use Rattle.pic_regs.specs.Registers.{Registers, read, flag}
 use Rattle.pic_regs.specs.Single.{only}
@@ -23,7 +24,7 @@ use Rattle.code_steps.specs.Between.{Alone, with_outside_of}
 use Rattle.code_acts.specs.Acts.{agrees}
 use Rattle.glue_steps.specs.declared.lines.Line.{Line}
 use Rattle.glue_steps.specs.declared.lines.Line.TheVariants.{Constant, Load, Store, Clear, Bit, Lower, Skip, Nothing}
-use Rattle.glue_steps.specs.Lines.{field_of, instr_of, loaded, lowered, skips, did, ran, is_steady, takes_byte, takes_bit, is_glue, keeps_flag, quiet, stores}
+use Rattle.glue_steps.specs.Lines.{field_of, instr_of, loaded, lowered, skips, did, ran, is_steady, takes_byte, takes_bit, is_glue, keeps_flag, quiet, stores, LineFits}
 use Rattle.glue_steps.specs.Stretches.{BankBits, IsKnown, Banked, NamedIn, Reached, moves_bank, bank_behind, register_of}
 
 -- A register that lines may name is none of INDF and PCL: a read gives what it holds, and it stands for itself.
@@ -285,3 +286,27 @@ skips_alone line glue c d r = subst (λ x. skips line x ≡ skips line c) (sym r
 
 pub put_alone : (line : Line) → is_glue line ≡ true → (c d : Chip) → Alone c d → (did line d).port ≡ (did line c).port
 put_alone line glue c d r = subst (λ x. (did line x).port ≡ (did line c).port) (sym r.only) (did_like line glue d c).port
+
+-- The fields of a line's instruction are in range.
+field_below : (o : Option ℕ) → elim o [ Some address ↦ address % 128 | None ↦ 0 ] < 128
+field_below (Some address) = omega arith
+field_below None = omega arith
+
+named_below : (reg : Reg) → field_of reg < 128
+named_below reg = field_below (lowest reg)
+
+lower_fits : (source : Source) → FieldsFit (instr_of (Lower source))
+lower_fits T0 = (lit< tt, lit< tt)
+lower_fits _ = (lit< tt, lit< tt)
+
+pub fields_fit : (line : Line) → LineFits line → FieldsFit (instr_of line)
+fields_fit (Constant k) fit = fit
+fields_fit (Load p) fit = named_below (reg_of p)
+fields_fit (Store p) fit = named_below (reg_of p)
+fields_fit (Clear p) fit = named_below (reg_of p)
+fields_fit (Bit true p b) fit = (named_below (reg_of p), fit)
+fields_fit (Bit false p b) fit = (named_below (reg_of p), fit)
+fields_fit (Lower source) fit = lower_fits source
+fields_fit (Skip true p b) fit = (named_below (reg_of p), fit)
+fields_fit (Skip false p b) fit = (named_below (reg_of p), fit)
+fields_fit Nothing fit = tt

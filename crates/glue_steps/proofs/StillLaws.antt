@@ -21,6 +21,9 @@ use Rattle.glue_steps.specs.Tells.{Withstands, Given}
 use Rattle.glue_steps.specs.Still.{with_glue_of, own_byte, MayWrite, Off, Still, is_glue_reg, is_still, target_of, StillAll}
 use Rattle.glue_steps.specs.Lines.{instr_of, did, ran}
 use Rattle.glue_steps.specs.Stretches.{Grants, GrantsAll}
+use Rattle.code_steps.specs.Between.{placed_at}
+use Rattle.code_steps.specs.Ends.{Own}
+use Rattle.code_steps.proofs.JumpLaws.{Passes, PassesSettings}
 
 pub off_stays : Withstands Off
 off_stays c d r off = ap (λ (x : Chip). x.regs.intcon.b7) r.only ∙ off
@@ -197,3 +200,39 @@ still_wider program In Wide May Also places more d done step = record {
     written_more : (o : Option ℕ) → IfSome o (λ address. (address ≡ 0x003) ⊎ May address) → IfSome o (λ address. (address ≡ 0x003) ⊎ Also address)
     written_more (Some address) wrote = either_way (more address) wrote
     written_more None wrote = tt
+
+-- Jumps, skips and page settings are such steps, at places whose word isn't RETFIE's; so are steps of work with GIE clear.
+module _ (program : ℕ → ℕ) (In May : ℕ → Type 0) (none : (p : ℕ) → In p → (program p == 0x0009) ≡ false) where
+  same_page : (reg : Reg) (place : ℕ) (d : Chip) → own_byte reg (placed_at place d.regs.pclath d).regs ≡ own_byte reg d.regs
+  same_page Status place d = refl
+  same_page _ place d = refl
+
+  other_page : (reg : Reg) (place : ℕ) (pclath : Byte) (d : Chip) → May 0x00A → (own_byte reg (placed_at place pclath d).regs ≡ own_byte reg d.regs) ⊎ MayWrite May reg
+  other_page Pclath place pclath d may = inr may
+  other_page _ place pclath d may = inl refl
+
+  pub still_passes : Passes In (Given Off (Still program In May))
+  still_passes d place inside off =
+      (record { inside = inside; off = off; no_return = none d.pc inside; kept = refl; changes = λ reg. inl (same_page reg place d); wrote = tt }, off)
+
+  pub still_settings : May 0x00A → PassesSettings In (Given Off (Still program In May))
+  still_settings may d place pclath inside off = (
+    record { inside = inside; off = off; no_return = none d.pc inside; kept = refl; changes = λ reg. other_page reg place pclath d may; wrote = inr may },
+    off,
+  )
+
+  worked : (reg : Reg) (start stop : ℕ) (d : Chip) (done : Done) → Own May start stop d done → (own_byte reg done.chip.regs ≡ own_byte reg d.regs) ⊎ MayWrite May reg
+  worked Status start stop d done step = inr tt
+  worked Pclath start stop d done step = step.pclath
+  worked (Plain address) start stop d done step = step.plain address
+  worked reg start stop d done step = inl (ap (λ (x : Chip). own_byte reg x.regs) step.kept)
+
+  pub still_work : (start stop : ℕ) (d : Chip) (done : Done) → In d.pc → Off d → Own May start stop d done → Still program In May d done
+  still_work start stop d done inside off step = record {
+    inside = inside;
+    off = off;
+    no_return = none d.pc inside;
+    kept = subst (λ (x : Chip). x ≡ with_glue_of x d) (sym step.kept) refl;
+    changes = λ reg. worked reg start stop d done step;
+    wrote = step.wrote;
+  }

@@ -1,6 +1,7 @@
 -- What the laws of `laws.rt` promise of glue.
-use Rattle.std.specs.Prelude.{◌≡◌, ℕ, suc, ◌+◌, ◌<◌, ◌≤◌, Bool, true, false, ◌&&◌, ◌⊎◌, Some, List, [], ◌++◌, length, map}
+use Rattle.std.specs.Prelude.{◌≡◌, ℕ, suc, ◌+◌, ◌<◌, ◌≤◌, Bool, true, false, ◌&&◌, ◌⊎◌, Some, ◌==◌, List, [], ◌∷◌, ◌++◌, length, map}
 use Rattle.std.specs.List.{cons_option}
+use Rattle.pic_isa.specs.declared.instructions.Instr.{Instr}
 use Rattle.pic_isa.specs.declared.sources.Source.{Source}
 use Rattle.pic_regs.specs.Registers.{flag}
 use Rattle.pic_machine.specs.declared.steps.Did.TheVariants.{Ran}
@@ -9,15 +10,22 @@ use Rattle.pic_machine.specs.Chip.{Chip}
 use Rattle.pic_machine.specs.Results.{Done}
 use Rattle.pic_machine.specs.Exec.{exec}
 use Rattle.pic_machine.specs.Boundary.{Outer, Step, boundary}
-use Rattle.code_steps.specs.Steps.{own}
-use Rattle.code_steps.specs.Between.{Alone}
+use Rattle.code_steps.specs.Steps.{next, own, Comes}
+use Rattle.code_steps.specs.Between.{Alone, placed_at}
+use Rattle.code_steps.specs.Ends.{Between}
+use Rattle.code_steps.specs.Laws.{Piece, OwnOf}
+use Rattle.code_steps.specs.Jumps.{arrives, Reaches, IsTest}
 use Rattle.code_items.specs.declared.items.Item.{Item}
+use Rattle.code_items.specs.declared.items.Item.TheVariants.{Ins, Jump}
+use Rattle.code_items.specs.Jumping.{at_skip}
+use Rattle.code_items.specs.Items.{ItemFits, is_skip, words_of_item}
 use Rattle.code_items.specs.Lines.{Stands}
 use Rattle.code_acts.specs.Standing.{StandFrom}
+use Rattle.glue_steps.specs.Jumping.{JumpWithin, SkipWithin}
 use Rattle.glue_steps.specs.declared.lines.Line.{Line}
 use Rattle.glue_steps.specs.Tells.{Tells, Withstands}
 use Rattle.glue_steps.specs.Still.{Off, Still, StillAll}
-use Rattle.glue_steps.specs.Lines.{instr_of, item_of, skips, did, ran, is_glue, keeps_flag}
+use Rattle.glue_steps.specs.Lines.{LineFits, instr_of, item_of, skips, did, ran, is_glue, keeps_flag}
 use Rattle.glue_steps.specs.Stretches.{BankBits, Banked, Reached, register_of, Fits, ran_all, puts_of, place_behind}
 
 -- A piece of glue: its places, and the registers that it may write, by tests of addresses.
@@ -63,6 +71,15 @@ ArrivesBehind line c d =
 abbrev pub FlagBehind : Line → Source → Chip → Type 0
 FlagBehind line source c = is_glue line ≡ true → flag source (ran line c).regs ≡ (keeps_flag line source && flag source c.regs)
 
+-- The fields of a line's instruction are in range.
+abbrev pub LineInRange : Line → Type 0
+LineInRange line = LineFits line → ItemFits (item_of line)
+
+-- A step of glue changes no flag, and leaves GIE clear.
+abbrev pub FlagsStay : (ℕ → ℕ) → Glue → Source → Chip → Done → Type 0
+FlagsStay program glue source d done =
+    StillIn program glue d done → (flag source done.chip.regs ≡ flag source d.regs) × Off done.chip
+
 -- Lines that stand from the program counter on come to what they leave, in as many steps as they are at most, and put what they put.
 abbrev pub Straight : (ℕ → ℕ) → Glue → (Chip → Bool) → BankBits → ℕ → List Line → Chip → Type 0
 Straight program glue test known p lines c =
@@ -95,3 +112,38 @@ abbrev pub BoundaryTold : (ℕ → ℕ) → Glue → (Chip → Bool) → List Po
 BoundaryTold program glue test puts k c outer =
     c.due ≡ false → Off c → Tells program (StillIn program glue) (Passes test) puts (suc k) c
     → ((puts ≡ []) × Passes test c) ⊎ StepTold program glue test puts k c (boundary program outer c)
+
+-- The words of a jump, of a skip instruction and a jump, lie in a piece of glue, and none is RETFIE's; the piece may write PCLATH
+-- where the code has page settings.
+abbrev pub NoReturn : (ℕ → ℕ) → Glue → Type 0
+NoReturn program glue = (p : ℕ) → glue.inside p ≡ true → (program p == 0x0009) ≡ false
+
+abbrev pub MayTurn : Bool → Glue → Type 0
+MayTurn paged glue = paged ≡ true → glue.may 0x00A ≡ true
+
+-- A jump leads to its mark, and there the code goes on.
+abbrev pub JumpTold : Bool → (program marks : ℕ → ℕ) → Glue → (Chip → Bool) → (p q m : ℕ) → List Item → List PortWrite → ℕ → Chip → Type 0
+JumpTold paged program marks glue test p q m items later k c =
+    Withstands (Passes test) → NoReturn program glue → MayTurn paged glue → Stands paged program marks p (Jump m ∷ items) q
+    → JumpWithin (λ q. glue.inside q ≡ true) paged p m → c.pc ≡ p → Off c → Reaches paged (marks m) c
+    → Tells program (StillIn program glue) (Passes test) later k (arrives (marks m) c)
+    → Tells program (StillIn program glue) (Passes test) later (words_of_item paged (Jump m) + k) c
+
+-- A skip instruction with a jump behind it leads past both where its test holds on the chip that it meets, and else to the mark.
+abbrev pub SkipTold : Bool → (program marks : ℕ → ℕ) → Glue → (test skip : Chip → Bool) → (p q m : ℕ) → Instr → List Item → List PortWrite → ℕ → Chip → Type 0
+SkipTold paged program marks glue test skip p q m i items later k c =
+    let tested : Chip = at_skip paged (marks m) c in
+    let Goes : Chip → Type 0 = Tells program (StillIn program glue) (Passes test) later k in
+    Withstands (Passes test) → NoReturn program glue → MayTurn paged glue → is_skip i ≡ true → Stands paged program marks p (Ins i ∷ Jump m ∷ items) q
+    → SkipWithin (λ q. glue.inside q ≡ true) paged p m i → c.pc ≡ p → Off c → Reaches paged (marks m) c
+    → ((d : Chip) → Alone tested d → IsTest i skip d)
+    → ((on : Chip) → Alone tested on → skip on ≡ true → Goes (placed_at (next (next tested.pc)) on.regs.pclath on))
+    → ((on : Chip) → Alone tested on → skip on ≡ false → Goes (arrives (marks m) on))
+    → Tells program (StillIn program glue) (Passes test) later (1 + words_of_item paged (Jump m) + k) c
+
+-- Work that comes to something over arrivals, by steps within a piece of code none of whose words is RETFIE's, comes to it as glue.
+abbrev pub WorkTold : (ℕ → ℕ) → Piece → (Chip → Bool) → ℕ → Chip → Type 0
+WorkTold program piece test k c =
+    let inside : ℕ → Type 0 = Between piece.start piece.stop in
+    ((p : ℕ) → inside p → (program p == 0x0009) ≡ false) → Off c → Comes program Alone (OwnOf piece) (Passes test) k c
+    → Tells program (Still program inside (λ address. piece.may address ≡ true)) (Passes test) [] k c

@@ -1,3 +1,4 @@
+pub mod Jumping
 pub mod Laws
 pub mod Lines
 pub mod Still

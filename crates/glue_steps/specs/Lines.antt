@@ -1,5 +1,5 @@
 -- Lines of glue: the instruction of each, what it leaves, and which lines depend on no flag and no pin.
-use Rattle.std.specs.Prelude.{ℕ, ◌%◌, Bool, true, false, not, nat_le, Some, None}
+use Rattle.std.specs.Prelude.{ℕ, ◌%◌, ◌<◌, Bool, true, false, not, nat_le, Some, None}
 use Rattle.pic_isa.specs.declared.instructions.Dest.TheVariants.{W}
 use Rattle.pic_isa.specs.declared.instructions.Instr.{Instr}
 use Rattle.pic_isa.specs.declared.instructions.Instr.TheVariants.{Bcf, Bsf, Clrf, Movf, Movlw, Movwf, Nop}
@@ -50,6 +50,13 @@ LineNamed (Clear p) = IsPlace p
 LineNamed (Bit v p b) = IsPlace p
 LineNamed (Skip v p b) = IsPlace p
 LineNamed _ = Unit {0}
+
+-- Its constant is below 256, its bit below 8.
+abbrev pub LineFits : Line → Type 0
+LineFits (Constant k) = (k < 256)
+LineFits (Bit v p b) = (b < 8)
+LineFits (Skip v p b) = (b < 8)
+LineFits _ = Unit {0}
 
 -- A step that writes no register but W and flags; and one whose result goes to a register.
 abbrev pub quiet : Chip → Done

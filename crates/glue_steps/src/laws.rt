@@ -2,12 +2,15 @@
 
 ghost use Rattle.std.specs.Prelude.{ℕ, Bool, List as Items};
 ghost use Rattle.code_items.specs.declared.items.Item.{Item as AnyItem};
-ghost use Rattle.glue_steps.specs.Laws.{ArrivesBehind, BoundaryTold, FlagBehind, Glue, GoesOn, LineLeaves, LinesStand, Longer, OneThenOther, Straight};
+ghost use Rattle.glue_steps.specs.Laws.{ArrivesBehind, BoundaryTold, FlagBehind, FlagsStay, Glue, GoesOn, JumpTold, LineInRange, LineLeaves, LinesStand, Longer, OneThenOther, SkipTold, Straight, WorkTold};
 ghost use Rattle.glue_steps.specs.Stretches.{BankBits};
 ghost use Rattle.glue_steps.specs.declared.lines.Line.{Line as AnyLine};
+ghost use Rattle.code_steps.specs.Laws.{Piece};
+ghost use Rattle.pic_isa.specs.declared.instructions.Instr.{Instr as AnyInstr};
 ghost use Rattle.pic_isa.specs.declared.sources.Source.{Source as AnySource};
 ghost use Rattle.pic_machine.specs.Boundary.{Outer};
 ghost use Rattle.pic_machine.specs.Chip.{Chip};
+ghost use Rattle.pic_machine.specs.Results.{Done};
 ghost use Rattle.pic_machine.specs.declared.steps.PortWrite.{PortWrite as AnyPut};
 
 /// Code that comes to something within some steps comes to it within more.
@@ -57,4 +60,31 @@ pub fn straight_on()
 pub fn lines_stand()
     ensures { (paged : Bool) (program marks : ℕ → ℕ) (p q : ℕ) (known : BankBits) (lines : Items AnyLine) (items : Items AnyItem)
         → LinesStand paged program marks p q known lines items }
+{}
+
+/// The fields of the instruction of a line are in range where its constant and its bit are.
+pub fn fields_are_in_range()
+    ensures { (line : AnyLine) → LineInRange line }
+{}
+
+/// A step of glue changes no flag, and leaves GIE clear.
+pub fn keeps_flags()
+    ensures { (program : ℕ → ℕ) (glue : Glue) (source : AnySource) (d : Chip) (done : Done) → FlagsStay program glue source d done }
+{}
+
+/// A jump leads to its mark, on any page, whatever arrives.
+pub fn jumps_to_its_mark()
+    ensures { (paged : Bool) (program marks : ℕ → ℕ) (glue : Glue) (test : Chip → Bool) (p q m : ℕ) (items : Items AnyItem) (later : Items AnyPut) (k : ℕ) (c : Chip)
+        → JumpTold paged program marks glue test p q m items later k c }
+{}
+
+/// A skip instruction with a jump behind it leads past both, or to the mark, as its test says on the chip that it meets.
+pub fn skips_or_jumps()
+    ensures { (paged : Bool) (program marks : ℕ → ℕ) (glue : Glue) (test skip : Chip → Bool) (p q m : ℕ) (i : AnyInstr) (items : Items AnyItem)
+        (later : Items AnyPut) (k : ℕ) (c : Chip) → SkipTold paged program marks glue test skip p q m i items later k c }
+{}
+
+/// Work whose code comes to something over arrivals comes to it as glue, where GIE is clear.
+pub fn work_is_told()
+    ensures { (program : ℕ → ℕ) (piece : Piece) (test : Chip → Bool) (k : ℕ) (c : Chip) → WorkTold program piece test k c }
 {}

@@ -9,7 +9,7 @@ mod laws;
 mod lines;
 
 pub use laws::{
-    arrives_behind, clears_one_flag, goes_on_after_arrivals, line_leaves, lines_stand,
-    may_take_longer, one_after_the_other, straight_on, takes_its_own_step,
+    arrives_behind, clears_one_flag, fields_are_in_range, goes_on_after_arrivals, jumps_to_its_mark, keeps_flags, line_leaves, lines_stand,
+    may_take_longer, one_after_the_other, skips_or_jumps, straight_on, takes_its_own_step, work_is_told,
 };
 pub use lines::{Line, add_lines};
