@@ -1,0 +1,78 @@
+// What events need, and their plans, of a program with clauses at once and later, an own name, and definitions that one event
+// needs and another doesn't.
+use crate::cycle_tests::checked;
+use causality::Checked;
+use event_needs::{marks, named};
+use std::alloc::Global;
+use std::test::Fail;
+use two_phase::{Assign, plan};
+
+// Definitions 0 to 6: `level` reads `half`, which reads `count`, and no expression of Tick names `unused`.
+const TWO_EVENTS: &str =
+    "event Tick = T0 priority 1; event Push = INT priority 2; input knob : u8 = PORTB; let level : u8 = half + 1; let half : u8 = count / 2; let count : u8 = init 0 in { Tick => count + 1; }; let sum : u8 = init 0 in { Push => sum + knob later; }; let unused : u8 = knob + 1; let last : u8 = init 0 in { Tick => last + level later; Push => unused; }; output PORTC = sum;";
+
+fn has_marks(alloc: Global, c: &Checked, event: u8, wanted: &[bool]) -> Result<bool, Fail> {
+    if event as usize >= c.typed().program().events.len() {
+        return Ok(false);
+    }
+    Ok(marks(alloc, c, event)?.as_slice() == wanted)
+}
+
+fn has_named(alloc: Global, c: &Checked, event: u8, wanted: &[bool]) -> Result<bool, Fail> {
+    if event as usize >= c.typed().program().events.len() {
+        return Ok(false);
+    }
+    Ok(named(alloc, c, event)?.as_slice() == wanted)
+}
+
+fn has_plan(
+    alloc: Global,
+    c: &Checked,
+    event: u8,
+    work: &[Assign],
+    commit: &[u8],
+) -> Result<bool, Fail> {
+    if event as usize >= c.typed().program().events.len() {
+        return Ok(false);
+    }
+    let found = plan(alloc, c, event)?;
+    Ok(found.work.as_slice() == work && found.commit.as_slice() == commit)
+}
+
+fn value(decl: u8) -> Assign {
+    Assign { decl, next: false }
+}
+
+fn state(decl: u8) -> Assign {
+    Assign { decl, next: true }
+}
+
+#[test]
+fn what_two_events_need(rt: HostRuntime) -> Result<(), Fail> {
+    let alloc = rt.alloc();
+    match checked(alloc, TWO_EVENTS)? {
+        Ok(c) => {
+            assert!(rt; has_marks(alloc, &c, 0, &[false, true, true, false, false, false, false])?);
+            assert!(rt; has_marks(alloc, &c, 1, &[false, false, false, false, false, true, false])?);
+            assert!(rt; has_named(alloc, &c, 0, &[false, true, true, true, true, false, true])?);
+            assert!(rt; has_named(alloc, &c, 1, &[true, false, false, false, true, true, false])?);
+        }
+        Err(_fault) => assert!(rt; false),
+    }
+    Ok(())
+}
+
+#[test]
+fn plans_of_two_events(rt: HostRuntime) -> Result<(), Fail> {
+    let alloc = rt.alloc();
+    match checked(alloc, TWO_EVENTS)? {
+        Ok(c) => {
+            let tick = [value(3), value(2), value(1), state(6)];
+            assert!(rt; has_plan(alloc, &c, 0, &tick, &[3, 6])?);
+            let push = [value(5), value(6), state(4)];
+            assert!(rt; has_plan(alloc, &c, 1, &push, &[4, 6])?);
+        }
+        Err(_fault) => assert!(rt; false),
+    }
+    Ok(())
+}

@@ -1,0 +1,7 @@
+pub mod AddFacts
+pub mod DepthFacts
+pub mod GiveLaws
+pub mod NameFacts
+pub mod PlanFacts
+pub mod PlannedFacts
+pub mod ReadFacts
