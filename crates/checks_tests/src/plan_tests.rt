@@ -9,7 +9,7 @@ use two_phase::{Assign, plan};
 
 // Definitions 0 to 6: `level` reads `half`, which reads `count`, and no expression of Tick names `unused`.
 const TWO_EVENTS: &str =
-    "event Tick = T0 priority 1; event Push = INT priority 2; input knob : u8 = PORTB; let level : u8 = half + 1; let half : u8 = count / 2; let count : u8 = init 0 in { Tick => count + 1; }; let sum : u8 = init 0 in { Push => sum + knob later; }; let unused : u8 = knob + 1; let last : u8 = init 0 in { Tick => last + level later; Push => unused; }; output PORTC = sum;";
+    "event Tick = T0 priority 1; event Push = INT priority 2; let knob : u8 = input PORTB; let level : u8 = half + 1; let half : u8 = count / 2; let count : u8 = init 0 in { Tick => count + 1; }; let sum : u8 = init 0 in { Push => sum + knob later; }; let unused : u8 = knob + 1; let last : u8 = init 0 in { Tick => last + level later; Push => unused; }; output PORTC = sum;";
 
 fn has_marks(alloc: Global, c: &Checked, event: u8, wanted: &[bool]) -> Result<bool, Fail> {
     if event as usize >= c.typed().program().events.len() {
