@@ -10,8 +10,6 @@ mod level_tests;
 #[cfg(test)]
 mod name_tests;
 #[cfg(test)]
-mod plan_tests;
-#[cfg(test)]
 mod react_tests;
 #[cfg(test)]
 mod type_tests;

@@ -1,7 +1,7 @@
 // What events need, and their plans, of a program with clauses at once and later, an own name, and definitions that one event
 // needs and another doesn't.
-use crate::cycle_tests::checked;
 use causality::Checked;
+use checked_source::read;
 use event_needs::{marks, named};
 use std::alloc::Global;
 use std::test::Fail;
@@ -50,14 +50,14 @@ fn state(decl: u8) -> Assign {
 #[test]
 fn what_two_events_need(rt: HostRuntime) -> Result<(), Fail> {
     let alloc = rt.alloc();
-    match checked(alloc, TWO_EVENTS)? {
+    match read(alloc, TWO_EVENTS.as_bytes()) {
         Ok(c) => {
             assert!(rt; has_marks(alloc, &c, 0, &[false, true, true, false, false, false, false])?);
             assert!(rt; has_marks(alloc, &c, 1, &[false, false, false, false, false, true, false])?);
             assert!(rt; has_named(alloc, &c, 0, &[false, true, true, true, true, false, true])?);
             assert!(rt; has_named(alloc, &c, 1, &[true, false, false, false, true, true, false])?);
         }
-        Err(_fault) => assert!(rt; false),
+        Err(_fault) => return Err(Fail::new("the program passes the checks")),
     }
     Ok(())
 }
@@ -65,14 +65,14 @@ fn what_two_events_need(rt: HostRuntime) -> Result<(), Fail> {
 #[test]
 fn plans_of_two_events(rt: HostRuntime) -> Result<(), Fail> {
     let alloc = rt.alloc();
-    match checked(alloc, TWO_EVENTS)? {
+    match read(alloc, TWO_EVENTS.as_bytes()) {
         Ok(c) => {
             let tick = [value(3), value(2), value(1), state(6)];
             assert!(rt; has_plan(alloc, &c, 0, &tick, &[3, 6])?);
             let push = [value(5), value(6), state(4)];
             assert!(rt; has_plan(alloc, &c, 1, &push, &[4, 6])?);
         }
-        Err(_fault) => assert!(rt; false),
+        Err(_fault) => return Err(Fail::new("the program passes the checks")),
     }
     Ok(())
 }
