@@ -4,7 +4,8 @@ use crate::calls::{Found, ends, made, parts_of};
 use crate::compile_tests::compile;
 use std::alloc::{AllocError, Global};
 
-/// A text in short: in its parts `PIECE`N` stands for N times the piece. They stand so often, and then the rest does.
+/// A text in short: in its parts `PIECE`N` stands for N times the piece, at most twice. They stand so often, and then the rest
+/// does.
 #[derive(Clone, Copy, Debug)]
 pub(crate) struct Short<'a> {
     pub parts: &'a str,
@@ -23,16 +24,26 @@ fn add_pieces(text: &mut String, piece: &str, times: &str) -> Result<(), AllocEr
     Ok(())
 }
 
+// Adds what comes up to the end of the first `PIECE`N`, and answers what is left; all of it where there is none.
+fn add_group<'a>(text: &mut String, parts: &'a str) -> Result<&'a str, AllocError> {
+    let Some((front, others)) = parts.split_once('`') else {
+        return Ok(parts);
+    };
+    let Some((piece, others)) = others.split_once('`') else {
+        return Ok(parts);
+    };
+    let Some((times, left)) = others.split_once('`') else {
+        return Ok(parts);
+    };
+    text.push_str(front)?;
+    add_pieces(text, piece, times)?;
+    Ok(left)
+}
+
 fn add_parts(text: &mut String, parts: &str) -> Result<(), AllocError> {
-    let mut piece = "";
-    for (place, part) in parts.split('`').enumerate() {
-        match place % 3 {
-            0 => text.push_str(part)?,
-            1 => piece = part,
-            _ => add_pieces(text, piece, part)?,
-        }
-    }
-    Ok(())
+    let left = add_group(text, parts)?;
+    let left = add_group(text, left)?;
+    text.push_str(left)
 }
 
 /// The text in full.
