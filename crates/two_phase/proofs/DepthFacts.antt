@@ -107,7 +107,7 @@ module _ (p : ProgramTree) (s : State) (j : Samples) (event : List ℕ) (causal 
       by_found (Some d) e rest =
           ap (option_and_then (λ (c : DeclTree). value_by p s j (on k) x (rule_on event c.behaviour))) e
           ∙ rule-agrees p s j (on k) (on (suc k)) x (rule_on event d.behaviour) (λ y h.
-              rest y (ap (λ o. list_any (bytes_eq y) (elim o [ Some c ↦ dependencies_by x (rule_on event c.behaviour) | None ↦ [] ])) e ∙ h))
+          rest y (ap (λ o. list_any (bytes_eq y) (elim o [ Some c ↦ dependencies_by x (rule_on event c.behaviour) | None ↦ [] ])) e ∙ h))
           ∙ sym (ap (option_and_then (λ (c : DeclTree). value_by p s j (on (suc k)) x (rule_on event c.behaviour))) e)
 
   abbrev declared : List (List ℕ)

@@ -95,15 +95,15 @@ module _ (p : ProgramTree) (typed : IsTyped p) (differ : NamesDiffer p) (event o
         let wants = sym (wanted-at p typed differ event a.decl d false at) ∙ st.wanted in
         let among = ordered.behind st.before st.after a.decl d st.split at y (depends-on p typed differ event a.decl d e y false at wants is inside refl other) in
         reads-known p typed differ event a.decl d e y false at wants is inside front (λ m number its.
-            ap (list_any (assigns m false)) st.front_is
-            ∙ any-assigned p event m its st.before (sym (ap (λ o. elim o [ Some k ↦ list_any (λ i. i == k) st.before | None ↦ false ]) number) ∙ among))
+        ap (list_any (assigns m false)) st.front_is
+        ∙ any-assigned p event m its st.before (sym (ap (λ o. elim o [ Some k ↦ list_any (λ i. i == k) st.before | None ↦ false ]) number) ∙ among))
     | inr w ↦
         let st = stands p event true (range_with_len 0 (length p.decls)) w.0 rest a w.2 in
         let wants = sym (wanted-at p typed differ event a.decl d true at) ∙ st.wanted in
         reads-known p typed differ event a.decl d e y true at wants is inside front (λ m number its.
-            let once = ordered.once m (decl_number_within p y m number) in
-            ap (list_any (assigns m false)) w.1 ∙ list_any-append (assigns m false) values w.0
-            ∙ or-left (list_any (assigns m false) values) (list_any (assigns m false) w.0) (any-assigned p event m its order (count-some (λ i. i == m) order (omega (arith, once)))))
+        let once = ordered.once m (decl_number_within p y m number) in
+        ap (list_any (assigns m false)) w.1 ∙ list_any-append (assigns m false) values w.0
+        ∙ or-left (list_any (assigns m false) values) (list_any (assigns m false) w.0) (any-assigned p event m its order (count-some (λ i. i == m) order (omega (arith, once)))))
   ]
 
   pub is-plan : (plan : Plan) → plan.work ≡ values ++ states → map Some plan.commit ≡ map (λ (d : DeclTree). decl_number p d.name) (reacting p event) → IsPlan p event plan

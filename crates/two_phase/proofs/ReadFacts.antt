@@ -174,7 +174,7 @@ module _ (p : ProgramTree) (typed : IsTyped p) (differ : NamesDiffer p) (event :
       by_kind (Reactive init clauses) kind wants is = clause-needs p differ event n d e k.name at (ap (reacting_expression event) kind ∙ clause-expression (clause_for event clauses) e is) h
 
   module _ (front : List Assign) (m : ℕ) (k : DeclTree) (there : slice_get p.decls m ≡ Some k) (no_table : is_table k.behaviour ≡ false) (named : is_named_in k.name (needed p event) ≡ true)
-    (done : number_wanted p event false m ≡ true → list_any (assigns m false) front ≡ true) where
+      (done : number_wanted p event false m ≡ true → list_any (assigns m false) front ≡ true) where
     by-kind : (b : BehaviourTree) → k.behaviour ≡ b → is_known_by front m (rule_on event b) ≡ true
     by-kind (Plain g) is =
         done (wanted-at m k false there ∙ ap (λ b. is_wanted_by (is_needed p event k) false (rule_on event b)) is ∙ ap (λ b. b && true) (named-needed p differ event m k there (ap is_plain is) named))

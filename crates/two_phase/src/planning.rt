@@ -121,13 +121,7 @@ pub fn plan(alloc: Global, c: &Checked, event: u8) -> Result<Plan, AllocError>
     let name = event_name(typed.program(), event);
     let needed = marks(alloc, c, event)?;
     let mut work = List::new(alloc);
-    assign_values(
-        &mut work,
-        typed,
-        name,
-        needed.as_slice(),
-        c.order(event),
-    )?;
+    assign_values(&mut work, typed, name, needed.as_slice(), c.order(event))?;
     assign_states(&mut work, typed, name, needed.as_slice())?;
     let commit = reacting(alloc, typed, name)?;
     Ok(Plan { work, commit })

@@ -1,5 +1,6 @@
 use Rattle.std.specs.Prelude.{◌≡◌}
 use Rattle.std.proofs.Common.{ap, ◌∙◌}
+use Rattle.std.proofs.lemmas.Result.{err_from_is_err_and}
 use Rattle.frp_tree.specs.declared.syntax.Program.{Program}
 use Rattle.frp_tree.specs.Tree.{program_tree_of}
 use Rattle.efrp_types.specs.Numbers.{event_name}
@@ -8,16 +9,16 @@ use Rattle.two_phase.proofs.PlannedFacts.{planned, planned-gives}
 use Rattle.two_phase.proofs.planning.plan.Goals as goal
 
 pub returns-in_err-needed-clause-plan : goal.returns-in_err-needed-clause-plan
-returns-in_err-needed-clause-plan c = rw c.from_residual.ensures tt
+returns-in_err-needed-clause-plan c = let told = err_from_is_err_and c.from_residual.result c.from_residual.ensures.1 in rw told.1 tt
 
 pub returns-in_err-assign_values-clause-plan : goal.returns-in_err-assign_values-clause-plan
-returns-in_err-assign_values-clause-plan c = rw c.from_residual-in_err-assign_values.ensures tt
+returns-in_err-assign_values-clause-plan c = let told = err_from_is_err_and c.from_residual-in_err-assign_values.result c.from_residual-in_err-assign_values.ensures.1 in rw told.1 tt
 
 pub returns-in_err-assign_states-clause-plan : goal.returns-in_err-assign_states-clause-plan
-returns-in_err-assign_states-clause-plan c = rw c.from_residual-in_err-assign_states.ensures tt
+returns-in_err-assign_states-clause-plan c = let told = err_from_is_err_and c.from_residual-in_err-assign_states.result c.from_residual-in_err-assign_states.ensures.1 in rw told.1 tt
 
 pub returns-in_err-commit-clause-plan : goal.returns-in_err-commit-clause-plan
-returns-in_err-commit-clause-plan c = rw c.from_residual-in_err-commit.ensures tt
+returns-in_err-commit-clause-plan c = let told = err_from_is_err_and c.from_residual-in_err-commit.result c.from_residual-in_err-commit.ensures.1 in rw told.1 tt
 
 pub returns-clause-plan : goal.returns-clause-plan
 returns-clause-plan c =
