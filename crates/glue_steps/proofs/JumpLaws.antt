@@ -22,7 +22,7 @@ use Rattle.glue_steps.specs.Jumping.{JumpWithin, SkipWithin}
 use Rattle.glue_steps.specs.Laws.{Glue, JumpTold, SkipTold}
 use Rattle.glue_steps.specs.Laws.{Passes as IsPassed}
 use Rattle.glue_steps.proofs.TellsLaws.{tells_moves, tells_wider, tells_then, tells_comes, tells_given}
-use Rattle.glue_steps.proofs.StillLaws.{off_stays, still_off, still_passes, still_settings}
+use Rattle.glue_steps.proofs.StillLaws.{off_stays, still_off, still_passes, still_settings, given_still}
 
 module _ (program marks : ℕ → ℕ) (G : Chip → Done → Type 0) (Q : Chip → Type 0) (stays : Withstands Q) (In : ℕ → Type 0) (passes : Passes In G) (paged : Bool)
     (sets : paged ≡ true → PassesSettings In G) where
@@ -66,11 +66,6 @@ module _ (program marks : ℕ → ℕ) (G : Chip → Done → Type 0) (Q : Chip 
           by_way (inr (fails, r)) = tells_moves program G Q stays later k (arrives (marks m) found.on) e r (jumped found.on found.between fails)
 
 -- With steps of glue, from a chip with GIE clear.
-given_still : (program : ℕ → ℕ) (In May : ℕ → Type 0) (Q : Chip → Type 0) (puts : List PortWrite) (k : ℕ) (c : Chip)
-    → Tells program (Still program In May) Q puts k c → Tells program (Given Off (Still program In May)) Q puts k c
-given_still program In May Q puts k c told =
-    tells_wider program (Still program In May) (Given Off (Still program In May)) Q Q (λ d done step off. (step, still_off program In May d done step)) (λ e q. q) puts k c told
-
 pub jump_told_at : (paged : Bool) (program marks : ℕ → ℕ) (glue : Glue) (test : Chip → Bool) (p q m : ℕ) (items : List Item) (later : List PortWrite) (k : ℕ) (c : Chip)
     → JumpTold paged program marks glue test p q m items later k c
 jump_told_at paged program marks glue test p q m items later k c stays none may stands within at off page told =

@@ -6,3 +6,4 @@ pub mod StillLaws
 pub mod StraightLaws
 pub mod StretchLaws
 pub mod TellsLaws
+pub mod TransferLaws

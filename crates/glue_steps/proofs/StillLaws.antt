@@ -1,5 +1,5 @@
 -- Steps of glue: those of lines, those of work with interrupts off, and that GIE stays clear.
-use Rattle.std.proofs.Common.{◌≡◌, ℕ, zero, suc, ◌+◌, ◌⊎◌, Bool, true, false, ◌==◌, ◌&&◌, if◌then◌else◌, Option, Some, None, IfSome, List, [], ◌∷◌, ap, ◌∙◌, sym, refl, subst, arith, inl, inr}
+use Rattle.std.proofs.Common.{◌≡◌, ℕ, zero, suc, ◌+◌, ◌⊎◌, Bool, true, false, ◌==◌, ◌&&◌, if◌then◌else◌, Option, Some, None, IfSome, List, [], ◌∷◌, ap, ◌∙◌, sym, refl, subst, arith, inl, inr, length, ◌≤◌}
 use Rattle.std.specs.Prelude.{nat_le}
 use Rattle.std.proofs.lemmas.Bool.{and_parts, eqb-true, leb-true}
 use Rattle.pic_isa.specs.declared.instructions.Instr.{Instr}
@@ -17,13 +17,15 @@ use Rattle.pic_machine.specs.Results.{Done, Outcome, Flags, Same, Zero, Carry, A
 use Rattle.code_steps.specs.Steps.{next, Is}
 use Rattle.glue_steps.specs.declared.lines.Line.{Line}
 use Rattle.glue_steps.specs.declared.lines.Line.TheVariants.{Load, Store, Clear, Bit, Lower, Skip}
-use Rattle.glue_steps.specs.Tells.{Withstands, Given}
-use Rattle.glue_steps.specs.Still.{with_glue_of, own_byte, MayWrite, Off, Still, is_glue_reg, is_still, target_of, StillAll}
+use Rattle.glue_steps.specs.Tells.{Withstands, Given, Tells}
+use Rattle.glue_steps.specs.Still.{with_glue_of, own_byte, MayWrite, Off, Still, is_glue_reg, is_still, target_of, StillAll, PlacesIn, StillLines}
 use Rattle.glue_steps.specs.Lines.{instr_of, did, ran}
 use Rattle.glue_steps.specs.Stretches.{Grants, GrantsAll}
 use Rattle.code_steps.specs.Between.{placed_at}
-use Rattle.code_steps.specs.Ends.{Own}
+use Rattle.code_steps.specs.Ends.{Own, Between}
 use Rattle.code_steps.proofs.JumpLaws.{Passes, PassesSettings}
+use Rattle.glue_steps.proofs.TellsLaws.{tells_wider}
+use Rattle.pic_machine.specs.declared.steps.PortWrite.{PortWrite}
 
 pub off_stays : Withstands Off
 off_stays c d r off = ap (λ (x : Chip). x.regs.intcon.b7) r.only ∙ off
@@ -236,3 +238,22 @@ module _ (program : ℕ → ℕ) (In May : ℕ → Type 0) (none : (p : ℕ) →
     changes = λ reg. worked reg start stop d done step;
     wrote = step.wrote;
   }
+
+-- Lines at places with In, which are such steps.
+pub still_parts : (In May : ℕ → Type 0) (p : ℕ) (lines : List Line) → PlacesIn In p lines → StillLines May lines → StillAll In May p lines
+still_parts In May p [] places still = tt
+still_parts In May p (line ∷ lines) places still = (still.0, places.0, still.1, still_parts In May (next p) lines places.1 still.2)
+
+-- The places of lines lie in an interval that has room for them.
+pub places_between : (start stop p : ℕ) (lines : List Line) → stop ≤ 8192 → start ≤ p → p + length lines ≤ stop → PlacesIn (Between start stop) p lines
+places_between start stop p [] top low room = tt
+places_between start stop p (line ∷ []) top low room = ((low, omega arith), tt)
+places_between start stop p (line ∷ second ∷ lines) top low room =
+    let onward : next p ≡ p + 1 = omega arith in
+    ((low, omega arith), places_between start stop (next p) (second ∷ lines) top (omega arith) (omega arith))
+
+-- Code that comes to something by steps of glue does so from chips with GIE clear.
+pub given_still : (program : ℕ → ℕ) (In May : ℕ → Type 0) (Q : Chip → Type 0) (puts : List PortWrite) (k : ℕ) (c : Chip)
+    → Tells program (Still program In May) Q puts k c → Tells program (Given Off (Still program In May)) Q puts k c
+given_still program In May Q puts k c told =
+    tells_wider program (Still program In May) (Given Off (Still program In May)) Q Q (λ d done step off. (step, still_off program In May d done step)) (λ e q. q) puts k c told

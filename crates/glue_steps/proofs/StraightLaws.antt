@@ -124,3 +124,15 @@ lines_stand paged program marks p q known lines items below fits stands =
           (subst (λ xs. Stands paged program marks p xs ((p + words_in paged (map item_of lines)) % 8192)) (items_of lines) parts.0),
       subst (λ r. Stands paged program marks r items q) there parts.1,
     )
+
+-- Lines end at the place behind them.
+pub ran_place : (lines : List Line) (skipped behind : Bool) (known : BankBits) (p : ℕ) (c : Chip) → (skipped ≡ true → behind ≡ true) → Fits behind known lines
+    → c.pc ≡ (if skipped then next p else p) → (ran_all skipped lines c).pc ≡ place_behind p lines
+ran_place [] true behind known p c pending fits at = absurd (let held = pending refl in let none : behind ≡ false = fits in cc)
+ran_place [] false behind known p c pending fits at = at
+ran_place (line ∷ lines) true behind known p c pending fits at =
+    ran_place lines false (may_skip line) (bank_behind line known) (next p) c (λ e. absurd (cc)) fits.2 at
+ran_place (line ∷ lines) false behind known p c pending fits at =
+    let glue = glue_part (is_glue line) behind (moves_bank line) fits.0 in
+    ran_place lines (skips line c) (may_skip line) (bank_behind line known) (next p) (ran line c) (only_skips line c) fits.2
+    (line_place line c glue ∙ ap (λ q. if skips line c then next (next q) else next q) at)

@@ -4,3 +4,4 @@ pub mod Lines
 pub mod Still
 pub mod Stretches
 pub mod Tells
+pub mod Transfers

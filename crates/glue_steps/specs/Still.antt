@@ -81,3 +81,12 @@ abbrev pub StillAll : (In May : ℕ → Type 0) → ℕ → List Line → Type 0
 StillAll In May p [] = Unit {0}
 StillAll In May p (line ∷ lines) =
     (is_still line ≡ true) × In p × IfSome (target_of line) (MayWrite May) × StillAll In May (next p) lines
+
+-- The places of lines alone; and what they do and write alone.
+abbrev pub PlacesIn : (In : ℕ → Type 0) → ℕ → List Line → Type 0
+PlacesIn In p [] = Unit {0}
+PlacesIn In p (line ∷ lines) = In p × PlacesIn In (next p) lines
+
+abbrev pub StillLines : (May : ℕ → Type 0) → List Line → Type 0
+StillLines May [] = Unit {0}
+StillLines May (line ∷ lines) = (is_still line ≡ true) × IfSome (target_of line) (MayWrite May) × StillLines May lines
