@@ -13,7 +13,7 @@ use Rattle.code_items.specs.declared.items.Item.{Item}
 use Rattle.code_items.specs.declared.items.Item.TheVariants.{Ins, Jump}
 use Rattle.code_items.specs.Items.{is_skip, words_of_item}
 use Rattle.code_items.specs.Jumping.{at_skip}
-use Rattle.code_items.specs.Lines.{Does, Goes, settings, Stands, Within}
+use Rattle.code_items.specs.Lines.{Does, Goes, settings, Stands}
 use Rattle.code_items.proofs.LineLaws.{ending}
 use Rattle.code_items.proofs.JumpLaws.{jump_comes, skip_comes, only_jump, only_skip}
 use Rattle.glue_steps.specs.Tells.{Tells, Withstands, Given}
@@ -21,8 +21,8 @@ use Rattle.glue_steps.specs.Still.{Off, Still}
 use Rattle.glue_steps.specs.Jumping.{JumpWithin, SkipWithin}
 use Rattle.glue_steps.specs.Laws.{Glue, JumpTold, SkipTold}
 use Rattle.glue_steps.specs.Laws.{Passes as IsPassed}
-use Rattle.glue_steps.proofs.TellsLaws.{tells_moves, tells_wider, tells_then, tells_comes, tells_given}
-use Rattle.glue_steps.proofs.StillLaws.{off_stays, still_off, still_passes, still_settings, given_still}
+use Rattle.glue_steps.proofs.TellsLaws.{tells_moves, tells_then, tells_comes, tells_given}
+use Rattle.glue_steps.proofs.StillLaws.{off_stays, still_passes, still_settings, given_still}
 
 module _ (program marks : ℕ → ℕ) (G : Chip → Done → Type 0) (Q : Chip → Type 0) (stays : Withstands Q) (In : ℕ → Type 0) (passes : Passes In G) (paged : Bool)
     (sets : paged ≡ true → PassesSettings In G) where

@@ -1,25 +1,24 @@
 -- Bytes that glue moves one after another: the lines fit, and leave what they are to leave.
-use Rattle.std.proofs.Common.{◌≡◌, ℕ, zero, suc, ◌+◌, ◌*◌, ◌/◌, ◌%◌, ◌<◌, ◌≤◌, ◌⊎◌, Bool, true, false, ◌==◌, ◌&&◌, Option, Some, None, IfSome, List, [], ◌∷◌, ◌++◌, length, map, ap, ◌∙◌, sym, refl, subst, arith, inl, inr}
+use Rattle.std.proofs.Common.{◌≡◌, ℕ, ◌+◌, ◌*◌, ◌/◌, ◌%◌, ◌⊎◌, Bool, true, false, ◌==◌, ◌&&◌, Option, Some, None, List, [], ◌∷◌, ◌++◌, length, map, ap, ◌∙◌, sym, refl, subst, inl, inr}
 use Rattle.std.specs.List.{cons_option}
 use Rattle.pic_regs.specs.declared.places.Place.{Place}
 use Rattle.pic_regs.specs.declared.places.Place.TheVariants as place
-use Rattle.pic_regs.specs.Bytes.{Byte, bits, one_if}
+use Rattle.pic_regs.specs.Bytes.{Byte, one_if}
 use Rattle.pic_regs.specs.Map.{Reg, Fsr, Pcl, Status, Plain, reg_in}
 use Rattle.pic_regs.specs.Places.{reg_of}
 use Rattle.pic_regs.specs.Registers.{Registers, write}
 use Rattle.pic_machine.specs.declared.steps.PortWrite.{PortWrite}
 use Rattle.pic_machine.specs.Chip.{Chip, advanced}
 use Rattle.pic_machine.specs.Results.{just, stored, shown, Done}
-use Rattle.code_steps.specs.Steps.{next}
 use Rattle.code_steps.proofs.BetweenLaws.{holds_bank}
 use Rattle.glue_steps.specs.declared.lines.Line.{Line}
 use Rattle.glue_steps.specs.declared.lines.Line.TheVariants.{Constant, Load, Store, Bit}
 use Rattle.glue_steps.specs.declared.transfers.Origin.{Origin}
 use Rattle.glue_steps.specs.declared.transfers.Origin.TheVariants.{Literal, Cell}
 use Rattle.glue_steps.specs.declared.transfers.Transfer.{Transfer}
-use Rattle.glue_steps.specs.Lines.{field_of, did, ran, is_glue, takes_byte, instr_of}
+use Rattle.glue_steps.specs.Lines.{field_of, ran, takes_byte, instr_of}
 use Rattle.glue_steps.specs.Still.{is_glue_reg, Off, Still, PlacesIn, StillLines}
-use Rattle.glue_steps.specs.Stretches.{BankBits, Banked, NamedIn, Fits, moves_bank, bank_behind, ran_all, puts_of, place_behind}
+use Rattle.glue_steps.specs.Stretches.{BankBits, Banked, NamedIn, Fits, moves_bank, ran_all, puts_of, place_behind}
 use Rattle.glue_steps.specs.Transfers.{home_of, bit_line, bank_lines, known_in, byte_from, origin_lines, known_from, transfer_line, known_behind, transfer_lines, known_past, transferred, transfer_puts, IsHome, OriginHome, TransferHome, TransfersHome, is_target, LedTo, Transferred, TransfersMay}
 use Rattle.glue_steps.proofs.LineLaws.{banked_behind, same_bank}
 use Rattle.glue_steps.specs.Tells.{Tells, Withstands, Given}

@@ -1,5 +1,5 @@
 -- The words of jumps of glue.
-use Rattle.std.specs.Prelude.{ℕ, Bool, List, [], ◌∷◌, ◌++◌}
+use Rattle.std.specs.Prelude.{ℕ, Bool, [], ◌∷◌, ◌++◌}
 use Rattle.pic_isa.specs.declared.instructions.Instr.{Instr}
 use Rattle.code_items.specs.Lines.{Does, Goes, settings, Within}
 

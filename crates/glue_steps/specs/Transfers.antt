@@ -1,7 +1,6 @@
 -- Bytes that glue moves to registers one after another: the lines, with the bank settings that they want, and what they leave.
 use Rattle.std.specs.Prelude.{◌≡◌, ℕ, ◌/◌, ◌%◌, ◌<◌, Bool, true, false, nat_le, nat_lt, ◌==◌, ◌&&◌, if◌then◌else◌, Option, Some, None, List, [], ◌∷◌}
 use Rattle.std.specs.List.{cons_option}
-use Rattle.pic_regs.specs.declared.places.Place.{Place}
 use Rattle.pic_regs.specs.declared.places.Place.TheVariants as place
 use Rattle.pic_regs.specs.Bytes.{Byte, bits}
 use Rattle.pic_regs.specs.Map.{Reg, Pir1, Pir2, Pie1, Pie2, Plain, Port, Status, Tris, reg_in}

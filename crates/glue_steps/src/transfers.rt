@@ -123,7 +123,11 @@ fn add_transfer(lines: &mut List<Line>, bank: Bank, transfer: Transfer) -> Resul
 /// Adds the lines that move these bytes one after another, begun in this bank, and answers what is known of the bank behind them.
 /// Addresses are below 512 and numbers of ports below 5. Bank bits are set only where they aren't known to be right. An `Err` is out
 /// of memory; then the first few lines are added.
-pub fn add_transfers(lines: &mut List<Line>, bank: Bank, transfers: &[Transfer]) -> Result<Bank, AllocError>
+pub fn add_transfers(
+    lines: &mut List<Line>,
+    bank: Bank,
+    transfers: &[Transfer],
+) -> Result<Bank, AllocError>
     requires { AllByRecursion TransferNamed transfers.now }
     ensures lines { OnOk result (lines.new ≡ lines.old ++ transfer_lines (bits_of_bank bank) transfers.now []) }
     ensures bank { IfOk result (λ behind. bits_of_bank behind ≡ known_past (bits_of_bank bank) transfers.now) }
