@@ -1,4 +1,5 @@
 pub mod BoundaryLaws
+pub mod ChoiceLaws
 pub mod Examples
 pub mod JumpLaws
 pub mod LineLaws

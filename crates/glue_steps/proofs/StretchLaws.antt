@@ -15,10 +15,10 @@ use Rattle.glue_steps.specs.declared.lines.Line.TheVariants.{Load}
 use Rattle.glue_steps.specs.Tells.{Tells, Withstands, Given}
 use Rattle.glue_steps.specs.Still.{Off, Still, StillAll}
 use Rattle.glue_steps.specs.Lines.{instr_of, loaded, did}
-use Rattle.glue_steps.specs.Stretches.{BankBits, Banked, Fits, Grants, ran_all, puts_of}
-use Rattle.glue_steps.specs.Laws.{Glue, Passes, Straight, WorkTold}
+use Rattle.glue_steps.specs.Stretches.{BankBits, Banked, Fits, Grants, ran_all, puts_of, HasEnables}
+use Rattle.glue_steps.specs.Laws.{Glue, Passes, Straight, WorkTold, IntconTold}
 use Rattle.glue_steps.proofs.TellsLaws.{tells_moves, tells_comes, tells_given}
-use Rattle.glue_steps.proofs.StillLaws.{off_stays, still_off, still_all, still_work}
+use Rattle.glue_steps.proofs.StillLaws.{off_stays, still_off, still_all, still_work, still_line, given_still}
 use Rattle.glue_steps.proofs.StraightLaws.{straight}
 use Rattle.pic_machine.specs.declared.steps.PortWrite.{PortWrite}
 
@@ -52,10 +52,7 @@ work_told program R narrow May start stop none Q k c off come =
     ))
     (λ e q. q) k c come))
 
--- INTCON in W: the one line that reads flags. It leaves some byte that has INTCON's bits but for the flags at 2 and 1.
-abbrev pub HasEnables : Byte → Byte → Type 0
-HasEnables x i = x ≡ record i { b2 = x.b2; b1 = x.b1 }
-
+-- INTCON in W: the one line that reads flags.
 pub intcon_loaded : (program : ℕ → ℕ) (G : Chip → Done → Type 0) (Q : Chip → Type 0) → Withstands Q → (p : ℕ) (later : List PortWrite) (k : ℕ) (c : Chip)
     → Is program p (instr_of (Load place.Intcon)) → Grants program G p (Load place.Intcon) → c.pc ≡ p
     → ((x : Byte) → HasEnables x c.regs.intcon → Tells program G Q later k (loaded x (advanced c)))
@@ -77,3 +74,12 @@ intcon_loaded program G Q stays p later k c is grants at told = inr (λ d r.
 pub work_told_at : (program : ℕ → ℕ) (piece : Piece) (test : Chip → Bool) (k : ℕ) (c : Chip) → WorkTold program piece test k c
 work_told_at program piece test k c none off come =
     work_told program Alone (λ x y r. r) (λ address. piece.may address ≡ true) piece.start piece.stop none (Passes test) k c off come
+
+pub intcon_told : (program : ℕ → ℕ) (glue : Glue) (test : Chip → Bool) (p : ℕ) (later : List PortWrite) (k : ℕ) (c : Chip) → IntconTold program glue test p later k c
+intcon_told program glue test p later k c stays is inside at off told =
+    let In : ℕ → Type 0 = λ x. glue.inside x ≡ true in
+    let May : ℕ → Type 0 = λ x. glue.may x ≡ true in
+    let Q : Chip → Type 0 = Passes test in
+    tells_given program Off (Still program In May) Q off_stays later (suc k) c off
+    (intcon_loaded program (Given Off (Still program In May)) Q stays p later k c is (still_line program In May p (Load place.Intcon) refl inside tt) at
+    (λ x its. given_still program In May Q later k (loaded x (advanced c)) (told x its)))

@@ -26,6 +26,7 @@ use Rattle.code_acts.specs.Standing.{StandFrom}
 use Rattle.glue_steps.proofs.TellsLaws.{tells_given}
 use Rattle.glue_steps.proofs.StillLaws.{off_stays, still_all, still_parts, given_still}
 use Rattle.glue_steps.proofs.StraightLaws.{straight_then, ran_place}
+use Rattle.glue_steps.specs.Laws.{Glue, Passes, TransfersTold}
 
 -- A bank bit is set by a line, or known to be right.
 bit_either : (b : ℕ) (known : Option Bool) (v : Bool) (rest : List Line)
@@ -360,3 +361,8 @@ transfers_told program In May Q stays known ts p later k c home may places stand
     (tells_given program Off (Still program In May) Q off_stays (puts_of false lines c later) (length lines + k) c off
     (straight_then program Step Q stays lines known p later k c fits stand (still_all program In May p lines still) at banked
     (subst (Tells program Step Q later k) (sym led.run) told)))
+
+pub transfers_told_at : (program : ℕ → ℕ) (glue : Glue) (test : Chip → Bool) (known : BankBits) (ts : List Transfer) (p : ℕ) (later : List PortWrite) (k : ℕ) (c : Chip)
+    → TransfersTold program glue test known ts p later k c
+transfers_told_at program glue test known ts p later k c stays home may places stand at banked off then_on =
+    transfers_told program (λ q. glue.inside q ≡ true) (λ address. glue.may address ≡ true) (Passes test) stays known ts p later k c home may places stand at banked off then_on

@@ -1,18 +1,19 @@
 -- What the laws of `laws.rt` promise of glue.
-use Rattle.std.specs.Prelude.{◌≡◌, ℕ, suc, ◌+◌, ◌<◌, ◌≤◌, Bool, true, false, ◌&&◌, ◌⊎◌, Some, ◌==◌, List, [], ◌∷◌, ◌++◌, length, map}
+use Rattle.std.specs.Prelude.{◌≡◌, ℕ, suc, ◌+◌, ◌<◌, ◌≤◌, Bool, true, false, ◌&&◌, ◌⊎◌, Some, ◌==◌, List, [], ◌∷◌, ◌++◌, length, map, ◌%◌}
 use Rattle.std.specs.List.{cons_option}
 use Rattle.pic_isa.specs.declared.instructions.Instr.{Instr}
 use Rattle.pic_isa.specs.declared.sources.Source.{Source}
+use Rattle.pic_regs.specs.declared.places.Place.TheVariants as place
 use Rattle.pic_regs.specs.Registers.{flag}
 use Rattle.pic_machine.specs.declared.steps.Did.TheVariants.{Ran}
 use Rattle.pic_machine.specs.declared.steps.PortWrite.{PortWrite}
-use Rattle.pic_machine.specs.Chip.{Chip}
+use Rattle.pic_machine.specs.Chip.{Chip, advanced}
 use Rattle.pic_machine.specs.Results.{Done}
 use Rattle.pic_machine.specs.Exec.{exec}
 use Rattle.pic_machine.specs.Boundary.{Outer, Step, boundary}
-use Rattle.code_steps.specs.Steps.{next, own, Comes}
+use Rattle.code_steps.specs.Steps.{next, own, Comes, Is}
 use Rattle.code_steps.specs.Between.{Alone, placed_at}
-use Rattle.code_steps.specs.Ends.{Between}
+use Rattle.code_steps.specs.Ends.{Between, Holds}
 use Rattle.code_steps.specs.Laws.{Piece, OwnOf}
 use Rattle.code_steps.specs.Jumps.{arrives, Reaches, IsTest}
 use Rattle.code_items.specs.declared.items.Item.{Item}
@@ -24,9 +25,15 @@ use Rattle.code_acts.specs.Standing.{StandFrom}
 use Rattle.glue_steps.specs.Jumping.{JumpWithin, SkipWithin}
 use Rattle.glue_steps.specs.declared.lines.Line.{Line}
 use Rattle.glue_steps.specs.Tells.{Tells, Withstands}
-use Rattle.glue_steps.specs.Still.{Off, Still, StillAll}
-use Rattle.glue_steps.specs.Lines.{LineFits, instr_of, item_of, skips, did, ran, is_glue, keeps_flag}
-use Rattle.glue_steps.specs.Stretches.{BankBits, Banked, Reached, register_of, Fits, ran_all, puts_of, place_behind}
+use Rattle.glue_steps.specs.Still.{Off, Still, StillAll, PlacesIn}
+use Rattle.glue_steps.specs.Lines.{LineFits, instr_of, item_of, skips, did, ran, is_glue, keeps_flag, loaded}
+use Rattle.glue_steps.specs.Stretches.{BankBits, Banked, Reached, register_of, Fits, ran_all, puts_of, place_behind, HasEnables}
+use Rattle.glue_steps.specs.Transfers.{transfer_lines, known_past, transfer_puts, TransfersHome, TransfersMay, Transferred}
+use Rattle.glue_steps.specs.Choices.{FlagTest, test_items, test_words, TestsWithin, TestsReach, Found, FoundNone}
+use Rattle.glue_steps.specs.declared.transfers.Transfer.{Transfer}
+use Rattle.glue_steps.specs.declared.lines.Line.TheVariants.{Load}
+use Rattle.code_steps.specs.declared.banks.Bank.TheVariants.{Known}
+use Rattle.pic_regs.specs.Bytes.{Byte}
 
 -- A piece of glue: its places, and the registers that it may write, by tests of addresses.
 pub record Glue : Type 0 where
@@ -147,3 +154,30 @@ WorkTold program piece test k c =
     let inside : ℕ → Type 0 = Between piece.start piece.stop in
     ((p : ℕ) → inside p → (program p == 0x0009) ≡ false) → Off c → Comes program Alone (OwnOf piece) (Passes test) k c
     → Tells program (Still program inside (λ address. piece.may address ≡ true)) (Passes test) [] k c
+
+-- Transfers that stand from the program counter on leave what they are to leave, and put what they put, whatever arrives on the
+-- way; and there the code goes on.
+abbrev pub TransfersTold : (ℕ → ℕ) → Glue → (Chip → Bool) → BankBits → List Transfer → (p : ℕ) → List PortWrite → ℕ → Chip → Type 0
+TransfersTold program glue test known ts p later k c =
+    let lines = transfer_lines known ts [] in
+    Withstands (Passes test) → TransfersHome ts → TransfersMay (λ address. glue.may address ≡ true) ts → PlacesIn (λ q. glue.inside q ≡ true) p lines
+    → StandFrom program p (map instr_of lines) → c.pc ≡ p → Banked known c → Off c
+    → ((e : Chip) → Transferred ts c e → e.pc ≡ place_behind p lines → Banked (known_past known ts) e
+    → Tells program (StillIn program glue) (Passes test) later k e)
+    → Tells program (StillIn program glue) (Passes test) (transfer_puts ts c.regs later) (length lines + k) c
+
+-- MOVF of INTCON to W, the one line that reads flags, leaves there some byte with INTCON's bits but for the flags at 2 and 1.
+abbrev pub IntconTold : (ℕ → ℕ) → Glue → (Chip → Bool) → (p : ℕ) → List PortWrite → ℕ → Chip → Type 0
+IntconTold program glue test p later k c =
+    Withstands (Passes test) → Is program p (instr_of (Load place.Intcon)) → glue.inside p ≡ true → c.pc ≡ p → Off c
+    → ((x : Byte) → HasEnables x c.regs.intcon → Tells program (StillIn program glue) (Passes test) later k (loaded x (advanced c)))
+    → Tells program (StillIn program glue) (Passes test) later (suc k) c
+
+-- Tests of flags come to the mark of the first one whose flag is found set, or past all of them; and there the code goes on.
+abbrev pub TestsTold : Bool → (program marks : ℕ → ℕ) → Glue → (Chip → Bool) → List FlagTest → (p q : ℕ) → List Item → List PortWrite → ℕ → Chip → Type 0
+TestsTold paged program marks glue test ts p q items later k c =
+    let Goes : Chip → Type 0 = Tells program (StillIn program glue) (Passes test) later k in
+    Withstands (Passes test) → NoReturn program glue → MayTurn paged glue → p < 8192 → Stands paged program marks p (test_items ts items) q
+    → TestsWithin (λ x. glue.inside x ≡ true) paged p ts → TestsReach paged marks ts c → c.pc ≡ p → Holds (Known 0) c → Off c
+    → ((e : Chip) → Found marks ts c e → Goes e) → ((e : Chip) → FoundNone ((p + test_words paged ts) % 8192) ts c e → Goes e)
+    → Tells program (StillIn program glue) (Passes test) later (test_words paged ts + k) c

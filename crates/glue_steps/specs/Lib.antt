@@ -1,3 +1,4 @@
+pub mod Choices
 pub mod Jumping
 pub mod Laws
 pub mod Lines

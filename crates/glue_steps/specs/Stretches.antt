@@ -3,7 +3,7 @@ use Rattle.std.specs.Prelude.{◌≡◌, ℕ, ◌+◌, ◌*◌, Bool, true, fals
 use Rattle.std.specs.List.{cons_option}
 use Rattle.pic_isa.specs.Sources.{flag_of}
 use Rattle.pic_regs.specs.declared.places.Place.TheVariants as place
-use Rattle.pic_regs.specs.Bytes.{one_if}
+use Rattle.pic_regs.specs.Bytes.{one_if, Byte}
 use Rattle.pic_regs.specs.Map.{Reg, reg_at, reg_in}
 use Rattle.pic_regs.specs.Places.{reg_of}
 use Rattle.pic_machine.specs.declared.steps.PortWrite.{PortWrite}
@@ -104,3 +104,7 @@ GrantsAll program G p (line ∷ lines) = Grants program G p line × GrantsAll pr
 abbrev pub place_behind : ℕ → List Line → ℕ
 place_behind p [] = p
 place_behind p (line ∷ lines) = place_behind (next p) lines
+
+-- A byte has INTCON's bits, but for the flags at 2 and 1.
+abbrev pub HasEnables : (x intcon : Byte) → Type 0
+HasEnables x intcon = x ≡ record intcon { b2 = x.b2; b1 = x.b1 }
