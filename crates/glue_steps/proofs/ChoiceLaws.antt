@@ -133,15 +133,15 @@ module _ (program marks : ℕ → ℕ) (G : Chip → Done → Type 0) (Q : Chip 
           let e : Chip = arrives (marks t.entry) on in
           tells_longer program G Q later k (test_words paged ts + k) e (omega arith)
           (found e (record {
-          before = [];
-          test = t;
-          behind = ts;
-          among = refl;
-          clear = tt;
-          set = not_false (flag t.source on.regs) set;
-          there = refl;
-          page = refl;
-          moved = moves on r (marks t.entry) (with_page (marks t.entry) on.regs.pclath);
+            before = [];
+            test = t;
+            behind = ts;
+            among = refl;
+            clear = tt;
+            set = not_false (flag t.source on.regs) set;
+            there = refl;
+            page = refl;
+            moved = moves on r (marks t.entry) (with_page (marks t.entry) on.regs.pclath);
           }))
 
       passed : ((e : Chip) → Stands paged program marks ((p + test_words paged (t ∷ [])) % 8192) (test_items ts items) q → TestsReach paged marks ts e
@@ -163,9 +163,9 @@ module _ (program marks : ℕ → ℕ) (G : Chip → Done → Type 0) (Q : Chip 
           (place_past paged (marks t.entry) t.entry p t.source c at below) holds
           (λ x f. found x (found_later marks t ts c e x clear moved f))
           (λ x f. none x (record {
-          clear = (clear, all_were_clear ts c e moved.flags f.clear);
-          there = f.there ∙ omega arith;
-          moved = moved_twice c e x moved f.moved;
+            clear = (clear, all_were_clear ts c e moved.flags f.clear);
+            there = f.there ∙ omega arith;
+            moved = moved_twice c e x moved f.moved;
           }))
 
 pub tests_told_at : (paged : Bool) (program marks : ℕ → ℕ) (glue : Glue) (test : Chip → Bool) (ts : List FlagTest) (p q : ℕ) (items : List Item)
@@ -179,4 +179,3 @@ tests_told_at paged program marks glue test ts p q items later k c stays none ma
     ts p q items later k c below stands within reach at bank
     (λ e f. given_still program In May Q later k e (found e f))
     (λ e f. given_still program In May Q later k e (passed e f)))
-

@@ -52,10 +52,31 @@ fn what_two_events_need(rt: HostRuntime) -> Result<(), Fail> {
     let alloc = rt.alloc();
     match read(alloc, TWO_EVENTS.as_bytes()) {
         Ok(c) => {
-            assert!(rt; has_marks(alloc, &c, 0, &[false, true, true, false, false, false, false])?);
-            assert!(rt; has_marks(alloc, &c, 1, &[false, false, false, false, false, true, false])?);
+            assert!(rt;
+                has_marks(
+                    alloc,
+                    &c,
+                    0,
+                    &[false, true, true, false, false, false, false]
+                )?
+            );
+            assert!(rt;
+                has_marks(
+                    alloc,
+                    &c,
+                    1,
+                    &[false, false, false, false, false, true, false]
+                )?
+            );
             assert!(rt; has_named(alloc, &c, 0, &[false, true, true, true, true, false, true])?);
-            assert!(rt; has_named(alloc, &c, 1, &[true, false, false, false, true, true, false])?);
+            assert!(rt;
+                has_named(
+                    alloc,
+                    &c,
+                    1,
+                    &[true, false, false, false, true, true, false]
+                )?
+            );
         }
         Err(_fault) => return Err(Fail::new("the program passes the checks")),
     }
