@@ -1,0 +1,4 @@
+pub mod FrameLaws
+mod HeardFacts
+pub mod MakeLaws
+pub mod PieceLaws

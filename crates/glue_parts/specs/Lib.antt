@@ -1,0 +1,7 @@
+pub mod Effects
+pub mod Heard
+pub mod Kept
+pub mod Laws
+pub mod Marks
+pub mod Pieces
+pub mod Places
