@@ -12,7 +12,8 @@ mod stretches;
 pub use heard::heard_at;
 pub use kept::{REDO, SAVED_PCLATH, SAVED_STATUS, frame_byte};
 pub use laws::{
-    blind_both, changes, chooses, copies, frame_is_no_cell, frame_lies, frames_differ, lowers, makes_bit, makes_both, marks_differ, writes,
+    blind_both, changes, chooses, copies, frame_is_no_cell, frame_lies, frames_differ, lowers,
+    makes_bit, makes_both, marks_differ, writes,
 };
 pub use spread::{Context, Spread};
 pub use stretches::Stretch;
