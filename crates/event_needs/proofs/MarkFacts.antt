@@ -1,14 +1,14 @@
 -- What a mark more changes, and marks on all that is named in more expressions.
-use Rattle.std.specs.Prelude.{◌≡◌, ◌≢◌, ℕ, ◌+◌, ◌<◌, Bool, true, false, ◌||◌, ◌==◌, List, [], ◌∷◌, ◌++◌, length, map, take, set, fold, get_or, replicate, slice_get, Option, Some, None, refl}
+use Rattle.std.specs.Prelude.{◌≡◌, ◌≢◌, ℕ, ◌+◌, ◌<◌, Bool, true, false, ◌||◌, List, [], ◌∷◌, ◌++◌, length, map, take, set, fold, get_or, replicate, slice_get, Option, Some, None, refl}
 use Rattle.std.specs.List.{flat_map, list_any}
 use Rattle.std.specs.Str.{bytes_eq}
 use Rattle.std.proofs.Common.{sym, ap, subst, ◌∙◌, arith}
 use Rattle.std.proofs.Math.Path.{ap₂}
 use Rattle.std.proofs.lemmas.Bool.Decides.{eqb_tells}
-use Rattle.std.proofs.lemmas.List.{append_assoc, append-nil, get_or-replicate, get_or-set_other, get_or-set_same, length-replicate, length-set, map-append, take_more}
+use Rattle.std.proofs.lemmas.List.{append_assoc, append-nil, get_or-replicate, get_or-set_other, get_or-set_same, length-replicate, length-set, map-append}
 use Rattle.std.proofs.lemmas.Grind.{flat_map-append}
 use Rattle.std.proofs.lemmas.List.Folds.{list_any-append}
-use Rattle.std.proofs.lemmas.Option.{get_or_from_slice_get, none-some, same_Some, slice_get_within}
+use Rattle.std.proofs.lemmas.Option.{none-some, same_Some, slice_get_within}
 use Rattle.std.proofs.lemmas.Slice.Eq.{bytes_eq-Decides}
 use mathlib.Core.Logic.{inl, inr}
 use Rattle.frp_tree.specs.Tree.{Tree, DeclTree, OutputTree, ProgramTree}
@@ -17,6 +17,7 @@ use Rattle.efrp_meaning.specs.States.{NamesDiffer}
 use Rattle.efrp_types.specs.Numbers.{decl_number}
 use Rattle.event_needs.specs.Marking.{AreNamed, clause_expressions, with_name}
 use Rattle.event_needs.proofs.FilterFacts.{or-right}
+use Rattle.event_needs.proofs.ListLaws.{take-one}
 use Rattle.event_needs.proofs.NumberLaws.{numbered-name, own-number}
 
 or-nothing : (a b : Bool) → b ≡ false → a ≡ (a || b)
@@ -35,9 +36,6 @@ or-assoc false b c = refl
 any-named : (x : List ℕ) (es : List Tree) → list_any (bytes_eq x) (flat_map names_in es) ≡ list_any (λ tree. list_any (bytes_eq x) (names_in tree)) es
 any-named x [] = refl
 any-named x (e ∷ es) = list_any-append (bytes_eq x) (names_in e) (flat_map names_in es) ∙ ap (λ b. list_any (bytes_eq x) (names_in e) || b) (any-named x es)
-
-pub take-one : {A : Type 0} (xs : List A) (k : ℕ) (x : A) → slice_get xs k ≡ Some x → take (k + 1) xs ≡ take k xs ++ x ∷ []
-take-one xs k x at = take_more xs k x (slice_get_within xs k x at) ∙ ap (λ y. take k xs ++ y ∷ []) (get_or_from_slice_get xs k x x at)
 
 module _ (p : ProgramTree) (differ : NamesDiffer p) where
   pub long-with : (marked : List Bool) (x : List ℕ) → length (with_name p marked x) ≡ length marked

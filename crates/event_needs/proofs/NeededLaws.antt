@@ -1,9 +1,9 @@
 -- The non-reactive definitions that an event needs are those that are named in what it needs; and what is named in an expression
 -- of a clause, or in that of such a definition, is named in what the event needs.
-use Rattle.std.specs.Prelude.{◌≡◌, ℕ, suc, zero, ◌+◌, Bool, true, false, ◌||◌, ◌&&◌, List, [], ◌∷◌, ◌++◌, map, take, filter, get_or, slice_get, Some}
+use Rattle.std.specs.Prelude.{◌≡◌, ℕ, suc, zero, ◌+◌, Bool, true, false, ◌&&◌, List, [], ◌∷◌, ◌++◌, map, take, get_or, slice_get, Some}
 use Rattle.std.specs.List.{flat_map, list_any}
 use Rattle.std.specs.Str.{bytes_eq}
-use Rattle.std.proofs.Common.{sym, ap, subst, ◌∙◌}
+use Rattle.std.proofs.Common.{sym, ap, ◌∙◌}
 use Rattle.std.proofs.Math.Path.{ap₂}
 use Rattle.std.proofs.lemmas.Bool.{and_parts}
 use Rattle.std.proofs.lemmas.List.{get_or-map, map-append}
@@ -16,7 +16,7 @@ use Rattle.efrp_meaning.specs.States.{NamesDiffer}
 use Rattle.event_needs.specs.Marking.{own_names}
 use Rattle.event_needs.specs.Needed.{is_needed, named_on}
 use Rattle.event_needs.proofs.FilterFacts.{or-left, or-right, alike, found-passes, passes-found}
-use Rattle.event_needs.proofs.MarkFacts.{take-one}
+use Rattle.event_needs.proofs.ListLaws.{take-one}
 use Rattle.event_needs.proofs.NumberLaws.{same-name, same-place}
 use Rattle.event_needs.proofs.ReachFacts.{named-in, wanted, plain-needed, goes-on}
 

@@ -1,5 +1,5 @@
 -- Marks while an event's order is gone through from the back: no more than what the event needs, and for those behind all that they name.
-use Rattle.std.specs.Prelude.{◌≡◌, ℕ, suc, ◌+◌, ◌-◌, ◌<◌, ◌≤◌, ◌⊎◌, Bool, true, false, ◌||◌, ◌&&◌, ◌==◌, List, [], ◌∷◌, ◌++◌, length, map, take, drop, filter, fold, get_or, count_by, cond, slice_get, Some, None, if◌then◌else◌, refl}
+use Rattle.std.specs.Prelude.{◌≡◌, ℕ, suc, ◌-◌, ◌<◌, ◌≤◌, ◌⊎◌, Bool, true, false, ◌||◌, ◌&&◌, ◌==◌, List, [], ◌∷◌, ◌++◌, length, take, drop, filter, fold, get_or, count_by, cond, slice_get, Some, None, if◌then◌else◌, refl}
 use Rattle.std.specs.List.{list_any, list_all}
 use Rattle.std.specs.Str.{bytes_eq}
 use Rattle.std.proofs.Common.{sym, ap, subst, ◌∙◌, arith, drop-cons}
@@ -18,7 +18,7 @@ use Rattle.efrp_meaning.specs.Needs.{names_in, is_named_in, first_needed, expres
 use Rattle.efrp_meaning.specs.States.{NamesDiffer}
 use Rattle.efrp_meaning.proofs.NeedsLaws.{needs-are-closed, needs-are-least}
 use Rattle.efrp_types.specs.Numbers.{decl_number}
-use Rattle.causality.specs.Orders.{is_among, IsOrder}
+use Rattle.causality.specs.Orders.{IsOrder}
 use Rattle.event_needs.specs.Marking.{AreNamed, own_names, with_name}
 use Rattle.event_needs.specs.Needed.{named_on}
 use Rattle.event_needs.proofs.FilterFacts.{or-left, or-right, and-both, alike, all-kept, kept-each, found-plain, plain-found}

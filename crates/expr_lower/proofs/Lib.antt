@@ -4,7 +4,7 @@ pub mod LowerFacts
 pub mod LowerLaws
 pub mod MadeFacts
 pub mod NodeFacts
-pub mod OrderFacts
+pub mod OrderLaws
 pub mod OwnFacts
 pub mod PlaceFacts
 pub mod RoomFacts

@@ -37,7 +37,7 @@ use Rattle.expr_lower.specs.Nodes.{Made, behind, into_new, made, new_pair, of_bi
 use Rattle.expr_lower.specs.Places.{is_wide}
 use Rattle.expr_lower.specs.Running.{DoAll, GiveOut, HoldBytes}
 use Rattle.expr_lower.proofs.NodeFacts.{AreInside, done}
-use Rattle.expr_lower.proofs.OrderFacts.{between, ends-after, kinds-append, leaves, order-append}
+use Rattle.expr_lower.proofs.OrderLaws.{between, ends-after, kinds-append, leaves, order-append}
 use Rattle.expr_lower.proofs.OwnFacts.{Own, own-binary, own-com, own-if, own-not, own-shift, weaker}
 use Rattle.expr_lower.proofs.TypeFacts.{BoolToByte, BoolToWide, ByteToWide, Converts, WideToByte, binary-operands, branches, converts, shift-operand, some-same}
 

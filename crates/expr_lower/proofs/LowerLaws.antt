@@ -24,7 +24,7 @@ use Rattle.expr_lower.specs.Lowered.{HasNoLook, IsHeld, Lowers, NamesHaveCells, 
 use Rattle.expr_lower.specs.Nodes.{CanLower, made, operand, operand_at, operand_of_name, operand_of_place, some_operand}
 use Rattle.expr_lower.specs.Places.{AreCellsOf, FitIn, IsPlaced, cells_of_name, cells_of_place, first_of, is_wide}
 use Rattle.expr_lower.proofs.LowerFacts.{Holding, IsKnown, Knows, any-left, any-right, sound, unary-has}
-use Rattle.expr_lower.proofs.OrderFacts.{all-run, ends-after, leaves}
+use Rattle.expr_lower.proofs.OrderLaws.{all-run, ends-after, leaves}
 use Rattle.expr_lower.proofs.TypeFacts.{Converts, BoolToByte, BoolToWide, ByteToWide, WideToByte, binary-operands, branches, converts, most_amount, shift-operand}
 
 -- The type of a name is that of its definition's place.

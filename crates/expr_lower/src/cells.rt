@@ -1,7 +1,8 @@
 // The cells of a program's definitions.
-ghost use Rattle.std.specs.Prelude.{◌≡◌, ◌+◌, ◌≤◌, IfOk};
+ghost use Rattle.std.specs.Prelude.{◌≡◌, ◌+◌, ◌<◌, ◌≤◌, IfOk, Some, length, option_map, slice_get};
 ghost use Rattle.frp_tree.specs.Tree.{ProgramTree, behaviour_of, program_tree_of};
 ghost use Rattle.efrp_meaning.specs.Bounds.{bytes_in};
+ghost use Rattle.expr_lower.specs.declared.places.Place.{Place as AnyPlace};
 ghost use Rattle.expr_lower.specs.Nodes.{new_pair, size_of};
 ghost use Rattle.expr_lower.specs.Numbered.{AreStates, Binds, CanBind, state_cells};
 ghost use Rattle.expr_lower.specs.Places.{AreCellsOf};
@@ -63,6 +64,14 @@ impl Cells {
         ensures { result ≡ self.now.next }
     {
         self.next
+    }
+
+    /// The cells of a definition's state, where it has one. The definition exists. Takes no memory.
+    pub fn state(&self, decl: u8) -> Option<Pair>
+        requires { decl < length self.now.places.items }
+        ensures { Some result ≡ option_map (λ (place : AnyPlace). place.state) (slice_get self.now.places.items decl) }
+    {
+        self.places[decl as usize].state
     }
 
     /// New cells, which nothing stands for yet: two for a value of 16 bits, low byte first, and else one. With them there are at

@@ -1,18 +1,18 @@
 -- What is planned of one definition more.
-use Rattle.std.specs.Prelude.{◌≡◌, ℕ, zero, suc, ◌+◌, ◌<◌, Bool, true, false, not, ◌&&◌, nat_lt, List, [], ◌∷◌, ◌++◌, length, map, filter, take, get_or, slice_get, Option, Some, None, option_map, if◌then◌else◌, refl}
+use Rattle.std.specs.Prelude.{◌≡◌, ℕ, zero, suc, ◌+◌, Bool, true, false, nat_lt, List, [], ◌∷◌, ◌++◌, length, map, filter, take, get_or, slice_get, Option, Some, None, if◌then◌else◌, refl}
 use Rattle.std.specs.List.{flat_map, range_with_len}
-use Rattle.std.proofs.Common.{sym, ap, subst, ◌∙◌, arith}
+use Rattle.std.proofs.Common.{sym, ap, ◌∙◌, arith}
 use Rattle.std.proofs.Math.Path.{ap₂}
 use Rattle.std.proofs.lemmas.Grind.{flat_map-append}
-use Rattle.std.proofs.lemmas.List.{append_assoc, append-nil, get_or-map, map-append, take_more}
-use Rattle.std.proofs.lemmas.Option.{get_or_from_slice_get, none-some, slice_get_within}
-use Rattle.frp_tree.specs.declared.syntax.Clause.{Clause}
-use Rattle.frp_tree.specs.Tree.{ClauseTree, BehaviourTree, Plain, Input, Table, Reactive, DeclTree, ProgramTree, clause_of}
+use Rattle.std.proofs.lemmas.List.{append_assoc, append-nil, get_or-map, map-append}
+use Rattle.std.proofs.lemmas.Option.{get_or_from_slice_get, slice_get_within}
+use Rattle.frp_tree.specs.Tree.{ClauseTree, BehaviourTree, Plain, Input, Table, Reactive, DeclTree, ProgramTree}
 use Rattle.efrp_meaning.specs.Meaning.{rule_on}
-use Rattle.efrp_meaning.specs.Needs.{clause_for, expression_of, reacting_expression}
+use Rattle.efrp_meaning.specs.Needs.{expression_of, reacting_expression}
 use Rattle.efrp_meaning.specs.States.{NamesDiffer}
 use Rattle.efrp_types.specs.Numbers.{decl_number}
 use Rattle.event_needs.specs.Needed.{is_needed, needed_on, reacting_clause}
+use Rattle.event_needs.proofs.ListLaws.{take-one}
 use Rattle.event_needs.proofs.NumberLaws.{own-number}
 use Rattle.two_phase.specs.declared.plans.Assign.{Assign}
 use Rattle.two_phase.specs.Assigned.{assigned, number_wanted, reacts}
@@ -47,9 +47,6 @@ clause-tells event (Plain e) = refl
 clause-tells event (Input port) = refl
 clause-tells event (Table entries) = refl
 clause-tells event (Reactive init clauses) = refl
-
-take-one : (ds : List DeclTree) (k : ℕ) (d : DeclTree) → slice_get ds k ≡ Some d → take (k + 1) ds ≡ take k ds ++ d ∷ []
-take-one ds k d at = take_more ds k d (slice_get_within ds k d at) ∙ ap (λ c. take k ds ++ c ∷ []) (get_or_from_slice_get ds k d d at)
 
 pub reacts-tells : (event : List ℕ) (b : BehaviourTree) (o : Option ClauseTree) → o ≡ reacting_clause event b → nat_lt 0 (length (expression_of o)) ≡ nat_lt 0 (length (reacting_expression event b))
 reacts-tells event b o is = sym (ap (λ es. nat_lt 0 (length es)) (clause-tells event b ∙ ap expression_of (sym is)))

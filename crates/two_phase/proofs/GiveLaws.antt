@@ -1,13 +1,13 @@
 -- Each assignment of a plan gives what is meant: all that it reads has its value on the event by then.
-use Rattle.std.specs.Prelude.{◌≡◌, ◌≢◌, ℕ, suc, ◌-◌, ◌+◌, ◌<◌, ◌≤◌, ◌⊎◌, Bool, true, false, not, ◌||◌, ◌&&◌, ◌==◌, List, [], ◌∷◌, ◌++◌, length, fold, cond, count_by, slice_get, Option, Some, None, if◌then◌else◌, refl, option_and_then}
-use Rattle.std.specs.List.{AllByRecursion, list_any}
+use Rattle.std.specs.Prelude.{◌≡◌, ℕ, suc, ◌-◌, ◌<◌, ◌≤◌, ◌⊎◌, Bool, true, false, ◌||◌, ◌&&◌, ◌==◌, List, [], ◌∷◌, ◌++◌, cond, count_by, slice_get, Option, Some, None, if◌then◌else◌, refl, option_and_then}
+use Rattle.std.specs.List.{list_any}
 use Rattle.std.specs.Str.{bytes_eq}
 use Rattle.std.proofs.Common.{sym, ap, subst, ◌∙◌, arith, eq-eqb}
 use Rattle.std.proofs.lemmas.Bool.{eqb-true, false≢true}
 use Rattle.std.proofs.lemmas.List.{append_assoc, append-nil}
 use Rattle.std.proofs.lemmas.List.Folds.{list_any-append}
 use Rattle.std.proofs.lemmas.List.Sums.{fold-append, sum_by-append, sum_by-cons}
-use Rattle.std.proofs.lemmas.Option.{none-some, same_Some, slice_get_within}
+use Rattle.std.proofs.lemmas.Option.{slice_get_within}
 use mathlib.Core.Logic.{inl, inr}
 use Rattle.frp_tree.specs.Tree.{Tree, ClauseTree, BehaviourTree, Plain, Input, Table, Reactive, DeclTree, ProgramTree}
 use Rattle.efrp_meaning.specs.Causal.{IsCausalOn}
@@ -21,7 +21,7 @@ use Rattle.event_needs.proofs.NumberLaws.{own-decl, same-name, same-place}
 use Rattle.two_phase.specs.declared.plans.Assign.{Assign}
 use Rattle.two_phase.specs.declared.plans.Plan.{Plan}
 use Rattle.two_phase.specs.Laws.{PlansGive}
-use Rattle.two_phase.specs.Plans.{assigned_expression, expression_by, is_wanted, is_wanted_by, assigns, same_kind, is_known_by, IsKnown, is_own_state, IsPlan, given_by, names_before, own_name, given, bound, after, names_after, meant, PlanGives}
+use Rattle.two_phase.specs.Plans.{assigned_expression, expression_by, is_wanted, is_wanted_by, assigns, same_kind, is_known_by, IsKnown, IsPlan, given_by, names_before, own_name, given, bound, after, names_after, meant}
 use Rattle.two_phase.proofs.DepthFacts.{evaluate-agrees, own-agrees, stable-at-depth}
 
 -- Kinds of rules, as numbers, so that rules of two kinds differ.
@@ -281,6 +281,10 @@ module _ (p : ProgramTree) (differ : NamesDiffer p) (event : List ℕ) (causal :
 
   pub all-give : (front rest : List Assign) (a : Assign) (d : DeclTree) → plan.work ≡ front ++ a ∷ rest → slice_get p.decls a.decl ≡ Some d → given p s event (names front) d ≡ meant p s j event d a.next
   all-give front rest a d split at = gives front (further front [] (a ∷ rest) split none-yet) rest a split d at
+
+  -- Behind the whole plan each name that is known has its value on the event.
+  pub all-known : (y : List ℕ) → IsKnown p event plan.work y → names plan.work y ≡ on y
+  all-known y known = known-name plan.work (further plan.work [] [] (sym (append-nil plan.work)) none-yet) y known
 
 pub plans-give : (p : ProgramTree) → PlansGive p
 plans-give p event plan differ causal is s j front rest a d split at = all-give p differ event causal plan is s j front rest a d split at

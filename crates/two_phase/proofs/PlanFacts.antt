@@ -1,21 +1,16 @@
 -- Values in an event's order, and behind them new states in declaration order, are a plan.
-use Rattle.std.specs.Prelude.{◌≡◌, ◌≢◌, ℕ, zero, suc, ◌+◌, ◌<◌, ◌≤◌, ◌⊎◌, Bool, true, false, not, ◌||◌, ◌&&◌, ◌==◌, List, [], ◌∷◌, ◌++◌, length, map, cond, count_by, slice_get, Option, Some, None, if◌then◌else◌, refl, option_and_then}
-use Rattle.std.specs.List.{AllByRecursion, flat_map, list_any, range_with_len}
-use Rattle.std.specs.Str.{bytes_eq}
-use Rattle.std.proofs.Common.{sym, ap, subst, ◌∙◌, arith, zero-add}
+use Rattle.std.specs.Prelude.{◌≡◌, ℕ, zero, suc, ◌+◌, ◌<◌, ◌≤◌, ◌⊎◌, Bool, true, false, ◌&&◌, ◌==◌, List, [], ◌∷◌, ◌++◌, length, cond, count_by, if◌then◌else◌, refl}
+use Rattle.std.specs.List.{flat_map, range_with_len}
+use Rattle.std.proofs.Common.{sym, ap, ◌∙◌, arith, zero-add}
 use Rattle.std.proofs.Math.Path.{ap₂}
-use Rattle.std.proofs.lemmas.Bool.{eqb-true, false≢true}
+use Rattle.std.proofs.lemmas.Bool.{false≢true}
 use Rattle.std.proofs.lemmas.Bool.Decides.{eqb_tells}
-use Rattle.std.proofs.lemmas.List.{append_assoc}
-use Rattle.std.proofs.lemmas.List.Folds.{list_any-append}
 use Rattle.std.proofs.lemmas.List.Sums.{sum_by-append, sum_by-cons}
-use Rattle.std.proofs.lemmas.Option.{none-some, same_Some, slice_get_within}
-use Rattle.std.proofs.lemmas.Slice.Eq.{bytes_eq-Decides}
 use mathlib.Core.Logic.{inl, inr}
-use Rattle.frp_tree.specs.Tree.{Tree, Const, Name, Unary, Binary, Shift, If, Convert, Look, ClauseTree, BehaviourTree, Plain, Input, Table, Reactive, DeclTree, ProgramTree}
+use Rattle.frp_tree.specs.Tree.{ProgramTree}
 use Rattle.two_phase.specs.declared.plans.Assign.{Assign}
 use Rattle.two_phase.specs.Assigned.{number_wanted, assigned}
-use Rattle.two_phase.specs.Plans.{is_wanted, assigns, same_kind}
+use Rattle.two_phase.specs.Plans.{assigns, same_kind}
 
 -- How often a number stands in a row of all numbers from one on.
 none-below : (a k n : ℕ) → n < a → count_by (λ m. m == n) (range_with_len a k) ≡ 0

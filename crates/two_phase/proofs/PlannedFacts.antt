@@ -1,5 +1,5 @@
 -- What is planned is a plan.
-use Rattle.std.specs.Prelude.{◌≡◌, ℕ, zero, suc, ◌+◌, ◌<◌, Bool, true, false, ◌||◌, ◌&&◌, ◌==◌, List, [], ◌∷◌, ◌++◌, length, map, cond, count_by, get_or, slice_get, Option, Some, None, if◌then◌else◌, refl}
+use Rattle.std.specs.Prelude.{◌≡◌, ℕ, ◌+◌, ◌<◌, Bool, true, false, ◌||◌, ◌&&◌, ◌==◌, List, [], ◌∷◌, ◌++◌, length, map, cond, count_by, slice_get, Option, Some, None, if◌then◌else◌, refl}
 use Rattle.std.specs.List.{AllByRecursion, flat_map, list_any, range_with_len}
 use Rattle.std.proofs.Common.{sym, ap, subst, ◌∙◌, arith, zero-add}
 use Rattle.std.proofs.Math.Path.{ap₂}
@@ -7,20 +7,19 @@ use Rattle.std.proofs.lemmas.Bool.{false≢true}
 use Rattle.std.proofs.lemmas.List.{length-map}
 use Rattle.std.proofs.lemmas.List.Folds.{list_any-append}
 use Rattle.std.proofs.lemmas.List.Sums.{sum_by-append}
-use Rattle.std.proofs.lemmas.Option.{none-some, same_Some, slice_get-get_or, slice_get_within}
+use Rattle.std.proofs.lemmas.Option.{slice_get_within}
 use mathlib.Core.Logic.{inl, inr}
-use Rattle.frp_tree.specs.declared.syntax.Event.{Event}
 use Rattle.frp_tree.specs.Tree.{Tree, DeclTree, ProgramTree, decl_of, program_tree_of}
-use Rattle.efrp_meaning.specs.Causal.{IsCausalOn}
 use Rattle.efrp_meaning.specs.Needs.{IsNamedIn, reacting}
 use Rattle.efrp_meaning.specs.States.{NamesDiffer}
 use Rattle.efrp_meaning.specs.Types.{IsTyped}
 use Rattle.efrp_types.specs.Numbers.{decl_number, event_name}
 use Rattle.efrp_types.specs.declared.typed.Typed.{Typed}
 use Rattle.efrp_types.proofs.NumberLaws.{decl_number_within}
-use Rattle.efrp_types.proofs.TypedLaws.{no-fault-is-typed}
 use Rattle.causality.specs.declared.checked.Checked.{Checked}
 use Rattle.causality.specs.Orders.{IsOrder}
+use Rattle.event_needs.proofs.CheckedLaws.{checked-causal, checked-typed}
+use Rattle.event_needs.proofs.ListLaws.{all-append}
 use Rattle.event_needs.proofs.NumberLaws.{count-some, names-differ}
 use Rattle.two_phase.specs.declared.plans.Assign.{Assign}
 use Rattle.two_phase.specs.declared.plans.Plan.{Plan}
@@ -29,10 +28,6 @@ use Rattle.two_phase.specs.Plans.{assigned_expression, is_wanted, assigns, same_
 use Rattle.two_phase.proofs.GiveLaws.{plans-give}
 use Rattle.two_phase.proofs.PlanFacts.{once-within, count-all, in-both, stands}
 use Rattle.two_phase.proofs.ReadFacts.{any-assigned, wanted-at, reads-known, depends-on}
-
-all-append : {A : Type 0} (P : A → Type 0) (xs ys : List A) → AllByRecursion P xs → AllByRecursion P ys → AllByRecursion P (xs ++ ys)
-all-append P [] ys first second = second
-all-append P (x ∷ xs) ys first second = (first.0, all-append P xs ys first.1 second)
 
 or-left : (a b : Bool) → a ≡ true → (a || b) ≡ true
 or-left true b h = refl
@@ -114,12 +109,6 @@ module _ (p : ProgramTree) (typed : IsTyped p) (differ : NamesDiffer p) (event o
     commit = commit;
   }
 
--- What holds of each holds of the one at a place.
-each-at : {A : Type 0} (P : A → Type 0) (xs : List A) (i : ℕ) (x : A) → AllByRecursion P xs → slice_get xs i ≡ Some x → P x
-each-at P [] i x all found = absurd (none-some x found)
-each-at P (y ∷ ys) zero x all found = subst P (same_Some y x found) all.0
-each-at P (y ∷ ys) (suc i) x all found = each-at P ys i x all.1 found
-
 module _ (c : Checked) (n : ℕ) where
   abbrev tree : ProgramTree
   tree = program_tree_of c.typed.program
@@ -134,7 +123,7 @@ module _ (c : Checked) (n : ℕ) where
       → map Some commit ≡ map (λ (d : DeclTree). decl_number (program_tree_of t.program) d.name) (reacting (program_tree_of t.program) event)
       → IsPlan tree name (record { work = work; commit = commit })
   planned t event order none first work commit same is ordered empty values_are work_is commit_is =
-      is-plan tree ((no-fault-is-typed tree c.typed.formed c.typed.checked.names c.typed.checked.types).0) (names-differ c) name order ordered (record { work = work; commit = commit })
+      is-plan tree (checked-typed c) (names-differ c) name order ordered (record { work = work; commit = commit })
       (work_is
       ∙ ap₂ (λ (vs ss : List Assign). vs ++ ss)
       (values_are ∙ ap (λ (ws : List Assign). ws ++ flat_map (assigned (program_tree_of t.program) event false) order) empty
@@ -143,11 +132,5 @@ module _ (c : Checked) (n : ℕ) where
       ∙ ap (λ k. flat_map (assigned tree name true) (range_with_len 0 k)) (sym (length-map c.typed.program.decls decl_of))))
       (commit_is ∙ ap₂ (λ (u : Typed) (x : List ℕ). map (λ (d : DeclTree). decl_number (program_tree_of u.program) d.name) (reacting (program_tree_of u.program) x)) same is)
 
-  causal-on : n < length tree.events → IsCausalOn tree name
-  causal-on inside =
-      let some : Event = record { name = []; source = []; priority = 0 } in
-      let found = slice_get-get_or tree.events n some inside in
-      subst (IsCausalOn tree) (sym (ap (λ o. elim o [ Some e ↦ e.name | None ↦ [] ]) found)) (each-at (λ (e : Event). IsCausalOn tree e.name) tree.events n (get_or tree.events n some) c.causal found)
-
   pub planned-gives : n < length tree.events → (plan : Plan) → IsPlan tree name plan → PlanGives tree name plan
-  planned-gives inside plan is = plans-give tree name plan (names-differ c) (causal-on inside) is
+  planned-gives inside plan is = plans-give tree name plan (names-differ c) (checked-causal c n inside) is

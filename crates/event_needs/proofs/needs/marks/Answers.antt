@@ -1,5 +1,5 @@
 use Rattle.std.specs.Prelude.{◌≡◌, ◌&&◌, false, Bool, map}
-use Rattle.std.proofs.Common.{List, sym, ap, get_or, ◌∙◌}
+use Rattle.std.proofs.Common.{List, ap, get_or, ◌∙◌}
 use Rattle.efrp_types.specs.Numbers.{event_name}
 use Rattle.efrp_types.specs.declared.typed.Typed.{Typed}
 use Rattle.frp_tree.specs.declared.syntax.Program.{Program}

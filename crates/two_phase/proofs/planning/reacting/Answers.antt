@@ -1,9 +1,9 @@
-use Rattle.std.specs.Prelude.{◌≡◌, ◌+◌, ◌++◌, ◌∷◌, [], map, Some}
+use Rattle.std.specs.Prelude.{◌≡◌, ◌+◌, map, Some}
 use Rattle.std.proofs.Common.{List, ℕ, sym, ap, subst, take, ◌∙◌}
 use Rattle.frp_tree.specs.declared.syntax.Program.{Program}
 use Rattle.frp_tree.specs.Tree.{DeclTree, decl_of, program_tree_of}
 use Rattle.efrp_types.specs.Numbers.{decl_number}
-use Rattle.event_needs.proofs.NumberLaws.{checked-differ, tree-at, whole-trees}
+use Rattle.event_needs.proofs.NumberLaws.{checked-differ, tree-at}
 use Rattle.two_phase.proofs.AddFacts.{reacting-of, reacts-more, stays-more}
 use Rattle.two_phase.proofs.planning.reacting.Goals as goal
 use Rattle.two_phase.proofs.planning.reacting.Goals.{then-reacts+in_ok-push, else-reacts}

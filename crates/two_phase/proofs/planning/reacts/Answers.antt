@@ -1,5 +1,5 @@
-use Rattle.std.specs.Prelude.{Some, None}
-use Rattle.frp_tree.specs.Tree.{behaviour_of, clause_of}
+use Rattle.std.specs.Prelude.{None}
+use Rattle.frp_tree.specs.Tree.{behaviour_of}
 use Rattle.two_phase.proofs.AddFacts.{reacts-tells}
 use Rattle.two_phase.proofs.planning.reacts.Goals as goal
 
