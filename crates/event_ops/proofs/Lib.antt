@@ -1,0 +1,16 @@
+pub mod AssignFacts
+pub mod CopyFacts
+pub mod DoneFacts
+pub mod DraftFacts
+pub mod FinishFacts
+pub mod LookFacts
+pub mod NameFacts
+pub mod NamedFacts
+pub mod NewStateFacts
+pub mod OutputFacts
+pub mod PieceFacts
+pub mod PlaceFacts
+pub mod PortFacts
+pub mod ReadyFacts
+pub mod StepFacts
+pub mod SumFacts
