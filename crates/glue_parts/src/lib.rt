@@ -6,6 +6,7 @@ mod heard;
 mod kept;
 mod laws;
 pub mod marks;
+mod moves;
 mod spread;
 mod stretches;
 
@@ -15,5 +16,6 @@ pub use laws::{
     blind_both, changes, chooses, copies, frame_is_no_cell, frame_lies, frames_differ, lowers,
     makes_bit, makes_both, marks_differ, writes,
 };
+pub use moves::Move;
 pub use spread::{Context, Spread};
 pub use stretches::Stretch;
