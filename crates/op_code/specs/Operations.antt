@@ -2,6 +2,7 @@
 use Rattle.std.specs.Prelude.{◌≡◌, ℕ, ◌+◌, ◌/◌, ◌%◌, ◌<◌, ◌≤◌, ◌==◌, ◌⊎◌, Bool, true, false, if◌then◌else◌, Some, List, [], ◌∷◌, ◌++◌, map, length}
 use Rattle.std.specs.List.{AllByRecursion, flat_map, list_any, sum_by}
 use Rattle.pic_isa.specs.declared.instructions.Instr.{Instr}
+use Rattle.pic_isa.specs.declared.instructions.Instr.TheVariants.{Bcf, Bsf, Btfsc, Btfss}
 use Rattle.pic_isa.specs.Instructions.{FieldsFit}
 use Rattle.pic_regs.specs.Bytes.{num}
 use Rattle.pic_machine.specs.Chip.{Chip}
@@ -80,11 +81,25 @@ abbrev pub StaysIn : List ℕ → Needs → (bank to : Bank) → List Instr → 
 StaysIn cells need bank to instrs =
     (k : ℕ) → bank ≡ Known k → LieIn need k cells → AllByRecursion (λ i. sets_bank i ≡ false) instrs × (to ≡ Known k)
 
--- Items are these instructions, whose fields are in range; none names PCLATH, the last is no skip instruction, and no bank setting
--- stands directly behind one.
+-- An instruction clears, sets or tests a bit.
+abbrev pub is_of_bit : Instr → Bool
+is_of_bit (Bcf f b) = true
+is_of_bit (Bsf f b) = true
+is_of_bit (Btfsc f b) = true
+is_of_bit (Btfss f b) = true
+is_of_bit _ = false
+
+-- It doesn't name INDF, and STATUS only where it clears, sets or tests a bit.
+pub record NamesBitsOfStatus (i : Instr) : Type 0 where
+  pub indf : field i ≡ Some 0x00 → ⊥
+  pub status : field i ≡ Some 0x03 → is_of_bit i ≡ true
+
+-- Items are these instructions, whose fields are in range; none names PCLATH or INDF, and STATUS is named for its bits alone; the last
+-- is no skip instruction, and no bank setting stands directly behind one.
 pub record AreInstrs (items : List Item) (instrs : List Instr) : Type 0 where
   pub all : items ≡ map Ins instrs
   pub fit : AllByRecursion (λ i. FieldsFit i × (field i ≡ Some 0x0A → ⊥)) instrs
+  pub status : AllByRecursion NamesBitsOfStatus instrs
   pub last : ends_skipping false items ≡ false
   pub settings : SkipsNoSetting false instrs
 

@@ -11,4 +11,4 @@ mod named;
 pub use code_items::{Code, Item};
 pub use code_steps::Bank;
 pub use coding::{Coded, code_in, code_of};
-pub use laws::{none_does, one_more_does, parts_do};
+pub use laws::{keeps_bank, none_does, one_more_does, parts_do};
