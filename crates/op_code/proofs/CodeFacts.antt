@@ -42,6 +42,7 @@ use Rattle.op_code.specs.Named.{cell_at, named_by}
 use Rattle.op_code.specs.Operations.{ComesTo, DoesOp, Encloses, IsOperandOrCell, StaysIn, bytes_in, cells_of_op, is_one_of}
 use Rattle.op_code.specs.Templates.{acts_of, words_of}
 use Rattle.op_code.proofs.OrderLaws.{And, of_instrs}
+use Rattle.op_code.proofs.StatusFacts.{instrs_name}
 use Rattle.op_code.proofs.NameFacts.{all_of, at_each, bools-cells, not_one, or_right, place-cell, result-cells, value-cells, read_far, read_used, written_far}
 use Rattle.op_code.proofs.PlaceFacts.{acts_lie, cell_missed, may_write, named_placed, of_used, place_for, uses_picked, written_are_used}
 
@@ -198,6 +199,7 @@ module _ (need : Needs) (op : Op) (acts : List Act) (fits : bytes_of need ≤ 35
         are = record {
           all = refl;
           fit = instrs_fit (uses op) (writes op) (place_for need op) (named_placed need op fits on) None false bank acts right.is_sound;
+          status = instrs_name (uses op) (writes op) (place_for need op) (named_placed need op fits on) None false bank acts right.is_sound;
           last = skips.0;
           settings = skips.1;
         };

@@ -25,7 +25,7 @@ use Rattle.code_acts.specs.Laws.{SkipsNoSetting, sets_bank}
 use Rattle.code_acts.proofs.PartLaws.{CodeComes, code_wider, code_in_parts, items_of_stand, stand_of_items}
 use Rattle.op_code.specs.Templates.{words_of}
 use Rattle.op_code.specs.Laws.{NoneDoes, OneMoreDoes, PartsDo}
-use Rattle.op_code.specs.Operations.{ComesTo, Does, IsOperandOrCell, MeansInOrder, bytes_in, cells_of_op, is_one_of}
+use Rattle.op_code.specs.Operations.{ComesTo, Does, IsOperandOrCell, MeansInOrder, NamesBitsOfStatus, bytes_in, cells_of_op, is_one_of}
 use Rattle.op_code.proofs.NameFacts.{all-joined, all-parts, any-append, or_left, or_right}
 
 -- What is promised at the end, with PCLATH.
@@ -136,6 +136,7 @@ module _ (need : Needs) (cs ws ds vs : List ℕ) (M N : (ℕ → ℕ) → (ℕ �
     are = record {
       all = all_instrs;
       fit = all-joined (λ i. FieldsFit i × (field i ≡ Some 0x0A → ⊥)) is js first.are.fit second.are.fit;
+      status = all-joined NamesBitsOfStatus is js first.are.status second.are.status;
       last = ends-append false xs ys ∙ ap (λ b. ends_skipping b ys) first.are.last ∙ second.are.last;
       settings = no_setting false is js first.are.settings (ap (ends_skipping false) (sym first.are.all) ∙ first.are.last) second.are.settings;
     };
@@ -152,7 +153,7 @@ none_does need bank = record {
   leaves = λ picked enclosed paged program marks q c at. let low = at.pc in ((omega (arith, low), at.holds), refl, λ cell. refl);
   words = (omega arith, omega arith);
   instrs = [];
-  are = record { all = refl; fit = tt; last = refl; settings = tt };
+  are = record { all = refl; fit = tt; status = tt; last = refl; settings = tt };
   stays = λ k known lie. (tt, known);
 }
 
