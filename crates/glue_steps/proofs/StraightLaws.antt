@@ -19,7 +19,7 @@ use Rattle.glue_steps.specs.declared.lines.Line.{Line}
 use Rattle.glue_steps.specs.declared.lines.Line.TheVariants.{Constant, Bit, Skip}
 use Rattle.glue_steps.specs.Tells.{Tells, Withstands}
 use Rattle.glue_steps.specs.Lines.{instr_of, item_of, skips, did, ran, is_glue}
-use Rattle.glue_steps.specs.Stretches.{ran_all, puts_of, BankBits, Banked, may_skip, moves_bank, bank_behind, Fits, GrantsAll, place_behind}
+use Rattle.glue_steps.specs.Stretches.{ran_all, puts_of, BankBits, Banked, may_skip, moves_bank, bank_behind, bank_behind_all, Fits, GrantsAll, place_behind}
 use Rattle.glue_steps.specs.Laws.{LinesStand}
 use Rattle.glue_steps.proofs.TellsLaws.{tells_longer, tells_moves}
 use Rattle.glue_steps.proofs.LineLaws.{line_is, line_place, banked_same, banked_behind, same_bank, ran_alone, put_alone}
@@ -136,3 +136,14 @@ ran_place (line ∷ lines) false behind known p c pending fits at =
     let glue = glue_part (is_glue line) behind (moves_bank line) fits.0 in
     ran_place lines (skips line c) (may_skip line) (bank_behind line known) (next p) (ran line c) (only_skips line c) fits.2
     (line_place line c glue ∙ ap (λ q. if skips line c then next (next q) else next q) at)
+
+-- In the bank behind them.
+pub banked_ends : (lines : List Line) (skipped behind : Bool) (known : BankBits) (c : Chip) → (skipped ≡ true → behind ≡ true) → Fits behind known lines
+    → Banked known c → Banked (bank_behind_all lines known) (ran_all skipped lines c)
+banked_ends [] skipped behind known c pending fits banked = banked
+banked_ends (line ∷ lines) true behind known c pending fits banked =
+    let same = same_bank line known (bank_part (is_glue line) behind (moves_bank line) fits.0 (pending refl)) in
+    banked_ends lines false (may_skip line) (bank_behind line known) c (λ e. absurd (cc)) fits.2 (subst (λ k. Banked k c) (sym same) banked)
+banked_ends (line ∷ lines) false behind known c pending fits banked =
+    let glue = glue_part (is_glue line) behind (moves_bank line) fits.0 in
+    banked_ends lines (skips line c) (may_skip line) (bank_behind line known) (ran line c) (only_skips line c) fits.2 (banked_behind line known c glue banked)
