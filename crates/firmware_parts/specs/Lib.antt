@@ -1,0 +1,6 @@
+pub mod Layout
+pub mod Contexts
+pub mod Runs
+pub mod Times
+pub mod Vector
+pub mod Work
