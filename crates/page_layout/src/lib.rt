@@ -8,4 +8,5 @@ mod emitted;
 mod laid;
 mod mark_places;
 
+pub use counts::count_words;
 pub use laid::{CodeFault, Laid, layout};
