@@ -1,1 +1,2 @@
 pub mod TimesFacts
+pub mod WholeLaws
