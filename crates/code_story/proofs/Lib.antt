@@ -1,0 +1,13 @@
+pub mod ArrangedFacts
+pub mod BootFacts
+pub mod ChipFacts
+pub mod ChoiceFacts
+pub mod GlueFacts
+pub mod KeptFacts
+pub mod LeaveFacts
+pub mod SimulatedLaws
+pub mod TakingFacts
+pub mod ToldFacts
+pub mod WindowFacts
+pub mod WorkFacts
+pub mod WorkLaws
