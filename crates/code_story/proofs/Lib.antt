@@ -2,6 +2,7 @@ pub mod ArrangedFacts
 pub mod BootFacts
 pub mod ChipFacts
 pub mod ChoiceFacts
+pub mod Examples
 pub mod GlueFacts
 pub mod KeptFacts
 pub mod LeaveFacts
