@@ -1,11 +1,12 @@
 -- What an arrangement says of levels, events, places and requests, in the words of the core and of the map.
-use Rattle.std.specs.Prelude.{ℕ, zero, suc, ◌<◌, ◌≤◌, ◌==◌, ◌⊎◌, Bool, true, false, ◌&&◌, ◌||◌, List, [], ◌∷◌, length, Option, Some, None}
+use Rattle.std.specs.Prelude.{ℕ, ◌<◌, ◌≤◌, ◌==◌, ◌⊎◌, Bool, true, false, ◌||◌, List, [], ◌∷◌, length, Some}
 use Rattle.std.proofs.Common.{◌≡◌, refl, sym, ap, subst, ◌∙◌, arith, inl, inr, ne_eqb}
 use Rattle.std.proofs.lemmas.Bool.{and_from, both_ways, cases_lt}
 use Rattle.pic_regs.specs.Registers.{Registers, flag, enable, requested}
 use Rattle.pic_machine.specs.Chip.{Chip}
 use Rattle.pic_machine.specs.Boundary.{Outer}
-use Rattle.pic_machine.proofs.TurnLaws.{with_outer, taking}
+use Rattle.pic_machine.proofs.TurnLaws.{with_outer, taking, requested-on}
+use Rattle.map_file.specs.declared.maps.Map.{Map}
 use Rattle.map_file.specs.declared.maps.MapEvent.{MapEvent}
 use Rattle.firmware_promises.specs.Urgent.{is_in_intcon, is_heard}
 use Rattle.firmware_promises.proofs.HeardLaws.{heard_is_requested}
@@ -15,23 +16,38 @@ use Rattle.core_story.specs.Values.{item}
 use Rattle.core_story.specs.Interface.{flag_at}
 use Rattle.core_story.proofs.ItemLaws.{at_item, bit_is_of, event_with_level}
 use Rattle.firmware_parts.specs.Layout.{Layout, Part}
-use Rattle.firmware_parts.specs.Layout.Part.{Boot, Taking, Start, Begin, Work, Lock, Open, Copying, Commit, Exit}
+use Rattle.firmware_parts.specs.Layout.Part.{Open, Commit}
 use Rattle.firmware_parts.specs.Contexts.{AtLevel}
-use Rattle.code_story.specs.Arranged.{IsPart, IsLevel, IsEventOf, StandsAlone}
+use Rattle.code_story.specs.Arranged.{PlacesAgree, IsPart, IsLevel, IsEventOf}
 use Rattle.code_story.specs.Code.{Code}
+use Rattle.code_story.specs.Laws.{is_window_part}
 use Rattle.code_story.specs.Relation.{level_of_top}
-use Rattle.code_story.proofs.ChipFacts.{Asking, asking, hears, is_heard_where}
-
--- Parts but the open and the commit.
-abbrev pub is_window_part : Part → Bool
-is_window_part (Open e) = true
-is_window_part (Commit e) = true
-is_window_part _ = false
+use Rattle.code_story.proofs.ChipFacts.{hears_above, requests_exactly}
 
 -- No event opens or commits at a place.
 pub record Elsewhere (l : Layout) (place : ℕ) : Type 0 where
   pub no_open : (x : ℕ) → 0 < l.level x → (place == l.opens x) ≡ false
   pub no_commit : (x : ℕ) → 0 < l.level x → (place == l.commits x) ≡ false
+
+-- Where parts lie.
+apart : (l : Layout) (place : ℕ) → ((x : ℕ) → 0 < l.level x → place ≡ l.opens x → ⊥) → ((x : ℕ) → 0 < l.level x → place ≡ l.commits x → ⊥) → Elsewhere l place
+apart l place opens commits = record { no_open = λ x real. ne_eqb place (l.opens x) (opens x real); no_commit = λ x real. ne_eqb place (l.commits x) (commits x real) }
+
+module _ (m : Map) (l : Layout) (places : PlacesAgree m l) where
+  inside_at : (part : Part) (place other : ℕ) → l.inside part place ≡ true → place ≡ other → l.inside part other ≡ true
+  inside_at part place other inside same = ap (l.inside part) (sym same) ∙ inside
+
+  pub parts_are_elsewhere : (part : Part) (place : ℕ) → IsPart l part → is_window_part part ≡ false → l.inside part place ≡ true → Elsewhere l place
+  parts_are_elsewhere part place is_part other inside = apart l place
+      (λ x real same. both_ways (is_window_part part) other (ap is_window_part ((places.opens x real).only part is_part (inside_at part place (l.opens x) inside same))))
+      (λ x real same. both_ways (is_window_part part) other (ap is_window_part ((places.commits x real).only part is_part (inside_at part place (l.commits x) inside same))))
+
+  pub lies_elsewhere : (part : Part) (place : ℕ) → IsPart l part → is_window_part part ≡ false → l.inside part place ≡ true
+      → (x : ℕ) (e : MapEvent) → item m.events x ≡ Some e → ((place == e.«open») ≡ false) × ((place == e.commit) ≡ false)
+  lies_elsewhere part place is_part other inside x e found =
+      let elsewhere = parts_are_elsewhere part place is_part other inside in
+      let its = places.events x e found in
+      (ap (λ at. place == at) (sym its.opens) ∙ elsewhere.no_open x its.real, ap (λ at. place == at) (sym its.commits) ∙ elsewhere.no_commit x its.real)
 
 module _ (f : Code) where
   -- Levels.
@@ -88,66 +104,47 @@ module _ (f : Code) where
       let real = (f.arranged.places.events x found.0 found.1).real in (real, sym (flag_is x r real) ∙ set)
 
   -- Places.
-  apart : (place : ℕ) → ((x : ℕ) → 0 < f.l.level x → place ≡ f.l.opens x → ⊥) → ((x : ℕ) → 0 < f.l.level x → place ≡ f.l.commits x → ⊥) → Elsewhere f.l place
-  apart place opens commits = record { no_open = λ x real. ne_eqb place (f.l.opens x) (opens x real); no_commit = λ x real. ne_eqb place (f.l.commits x) (commits x real) }
-
-  inside_at : (part : Part) (place other : ℕ) → f.l.inside part place ≡ true → place ≡ other → f.l.inside part other ≡ true
-  inside_at part place other inside same = ap (f.l.inside part) (sym same) ∙ inside
-
   pub part_is_elsewhere : (part : Part) (place : ℕ) → IsPart f.l part → is_window_part part ≡ false → f.l.inside part place ≡ true → Elsewhere f.l place
-  part_is_elsewhere part place is_part other inside = apart place
-      (λ x real same. both_ways (is_window_part part) other (ap is_window_part ((f.arranged.places.opens x real).only part is_part (inside_at part place (f.l.opens x) inside same))))
-      (λ x real same. both_ways (is_window_part part) other (ap is_window_part ((f.arranged.places.commits x real).only part is_part (inside_at part place (f.l.commits x) inside same))))
+  part_is_elsewhere part place is_part other inside = parts_are_elsewhere f.m f.l f.arranged.places part place is_part other inside
 
   pub ready_is_elsewhere : Elsewhere f.l f.l.ready
-  ready_is_elsewhere = apart f.l.ready (λ x real same. (f.arranged.places.opens x real).not_ready (sym same)) (λ x real same. (f.arranged.places.commits x real).not_ready (sym same))
+  ready_is_elsewhere = apart f.l f.l.ready (λ x real same. (f.arranged.places.opens x real).not_ready (sym same)) (λ x real same. (f.arranged.places.commits x real).not_ready (sym same))
 
   pub boot_end_is_elsewhere : Elsewhere f.l f.l.boot_end
-  boot_end_is_elsewhere = apart f.l.boot_end (λ x real same. (f.arranged.places.opens x real).not_boot_end (sym same)) (λ x real same. (f.arranged.places.commits x real).not_boot_end (sym same))
+  boot_end_is_elsewhere = apart f.l f.l.boot_end (λ x real same. (f.arranged.places.opens x real).not_boot_end (sym same)) (λ x real same. (f.arranged.places.commits x real).not_boot_end (sym same))
 
   pub clear_is_elsewhere : (e : ℕ) → 0 < f.l.level e → Elsewhere f.l (f.l.clear e)
   clear_is_elsewhere e its =
-      apart (f.l.clear e) (λ x real same. (f.arranged.places.opens x real).not_clear e its (sym same)) (λ x real same. (f.arranged.places.commits x real).not_clear e its (sym same))
+      apart f.l (f.l.clear e) (λ x real same. (f.arranged.places.opens x real).not_clear e its (sym same)) (λ x real same. (f.arranged.places.commits x real).not_clear e its (sym same))
 
   pub on_is_elsewhere : (e : ℕ) → 0 < f.l.level e → f.l.is_short e ≡ false → Elsewhere f.l (f.l.on e)
   on_is_elsewhere e its long =
-      apart (f.l.on e) (λ x real same. (f.arranged.places.opens x real).not_on e its long (sym same)) (λ x real same. (f.arranged.places.commits x real).not_on e its long (sym same))
+      apart f.l (f.l.on e) (λ x real same. (f.arranged.places.opens x real).not_on e its long (sym same)) (λ x real same. (f.arranged.places.commits x real).not_on e its long (sym same))
 
   pub lock_is_elsewhere : (e : ℕ) → 0 < f.l.level e → f.l.is_short e ≡ false → Elsewhere f.l (f.l.lock e)
   lock_is_elsewhere e its long =
-      apart (f.l.lock e) (λ x real same. (f.arranged.places.opens x real).not_lock e its long (sym same)) (λ x real same. (f.arranged.places.commits x real).not_lock e its long (sym same))
+      apart f.l (f.l.lock e) (λ x real same. (f.arranged.places.opens x real).not_lock e its long (sym same)) (λ x real same. (f.arranged.places.commits x real).not_lock e its long (sym same))
 
   -- The return is elsewhere, by its word.
   pub return_is_elsewhere : (place : ℕ) → f.l.program place ≡ 0x0009 → Elsewhere f.l place
-  return_is_elsewhere place word = apart place
+  return_is_elsewhere place word = apart f.l place
       (λ x real same. both_ways (f.l.program (f.l.opens x) == 0x0009) (f.arranged.places.opens x real).no_return (ap (λ q. f.l.program q == 0x0009) (sym same) ∙ ap (λ w. w == 0x0009) word))
       (λ x real same. both_ways (f.l.program (f.l.commits x) == 0x0009) (f.arranged.places.commits x real).no_return (ap (λ q. f.l.program q == 0x0009) (sym same) ∙ ap (λ w. w == 0x0009) word))
 
   -- Requests, where the enables are those of a stack's top.
-  pub above_is_heard : (level x : ℕ) (c : Chip) → IsLevel f.l level → AtLevel f.l level c → level < f.l.level x
-      → (enable (f.l.source x) c.regs ≡ true) × ((is_in_intcon (f.l.source x) || c.regs.intcon.b6) ≡ true)
-  above_is_heard level x c is_level at_level above = hears f.l level c at_level (f.l.source x) (f.arranged.enables.heard level x is_level above)
-
   pub request_is_above : (st : List Run) (c : Chip) → AtLevel f.l (level_of_top f.l st) c → requested c.regs ≡ true → Above f.t (flag_at f.m c.regs) (top_level f.t st)
   request_is_above st c at_level request =
-      let one : Asking c.regs = asking c.regs at_level.rbie request in
-      let found = f.arranged.enables.only (level_of_top f.l st) one.source (top_is_level st) (is_heard_where f.l (level_of_top f.l st) c at_level one.source one.enabled one.peripheral) in
-      let real : 0 < f.l.level found.0 = omega (arith, found.2) in
-      (found.0, flag_is found.0 c.regs real ∙ ap (λ source. flag source c.regs) found.1 ∙ one.set, above_top st found.0 found.2)
+      let found = (requests_exactly f.l f.arranged.enables (level_of_top f.l st) c (top_is_level st) at_level (requested-on c request)).0 request in
+      let real : 0 < f.l.level found.0 = omega (arith, found.1) in (found.0, flag_is found.0 c.regs real ∙ found.2, above_top st found.0 found.1)
+
+  pub above_is_requested : (st : List Run) (c : Chip) → AtLevel f.l (level_of_top f.l st) c → c.regs.intcon.b7 ≡ true → Above f.t (flag_at f.m c.regs) (top_level f.t st) → requested c.regs ≡ true
+  above_is_requested st c at_level on above =
+      (requests_exactly f.l f.arranged.enables (level_of_top f.l st) c (top_is_level st) at_level on).1 (above.0, above_its_top st above.0 above.2, (flag_is_of above.0 c.regs above.1).1)
 
   -- An event above is heard at a boundary with interrupts on.
   pub heard_at : (level x : ℕ) (e : MapEvent) (outer : Outer) (c : Chip) → IsLevel f.l level → AtLevel f.l level (with_outer outer c) → c.regs.intcon.b7 ≡ true
       → item f.m.events x ≡ Some e → level < f.l.level x → is_heard e (taking outer c) ≡ true
   heard_at level x e outer c is_level at_level on found above =
       let same : f.l.source x ≡ e.source = (f.arranged.places.events x e found).source in
-      let its = above_is_heard level x (with_outer outer c) is_level at_level above in
-      and_from _ _ (and_from _ _ on (ap (λ source. enable source (with_outer outer c).regs) (sym same) ∙ its.0))
-          (ap (λ source. is_in_intcon source || c.regs.intcon.b6) (sym same) ∙ its.1)
-
-  pub above_is_requested : (st : List Run) (outer : Outer) (c : Chip) → AtLevel f.l (level_of_top f.l st) (with_outer outer c) → c.regs.intcon.b7 ≡ true
-      → Above f.t (flag_at f.m (with_outer outer c).regs) (top_level f.t st) → requested (with_outer outer c).regs ≡ true
-  above_is_requested st outer c at_level on above =
-      let found = bit_is_of f.m above.0 (λ source. flag source (with_outer outer c).regs) above.1 in
-      heard_is_requested found.0 (taking outer c)
-          (heard_at (level_of_top f.l st) above.0 found.0 outer c (top_is_level st) at_level on found.1 (above_its_top st above.0 above.2))
-          (sym (at_item f.m above.0 found.0 (λ source. flag source (with_outer outer c).regs) found.1) ∙ above.1)
+      let its = hears_above f.l f.arranged.enables level (with_outer outer c) is_level at_level x above in
+      and_from _ _ (and_from _ _ on (ap (λ source. enable source (with_outer outer c).regs) (sym same) ∙ its.0)) (ap (λ source. is_in_intcon source || c.regs.intcon.b6) (sym same) ∙ its.1)

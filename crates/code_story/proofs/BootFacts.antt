@@ -1,5 +1,5 @@
 -- The boot: its steps, and the one that turns interrupts on.
-use Rattle.std.specs.Prelude.{ℕ, zero, suc, ◌<◌, ◌≤◌, ◌⊎◌, Bool, true, false, List, [], ◌∷◌, ◌++◌, length, Option, Some, None}
+use Rattle.std.specs.Prelude.{ℕ, zero, suc, true, false, List, [], ◌∷◌, Option, Some, None}
 use Rattle.std.specs.List.{cons_option}
 use Rattle.std.proofs.Common.{◌≡◌, refl, sym, ap, subst, ◌∙◌, arith, inl, inr}
 use Rattle.std.proofs.lemmas.Bool.{both_ways}
@@ -13,10 +13,10 @@ use Rattle.pic_machine.specs.Boundary.{Outer, boundary}
 use Rattle.pic_machine.specs.Run.{power_on}
 use Rattle.pic_machine.proofs.TurnLaws.{with_outer, step_of}
 use Rattle.firmware_promises.specs.Counts.{put_by}
-use Rattle.timed_core.specs.Steps.{Run, Phase, Label, at}
+use Rattle.timed_core.specs.Steps.{Run}
 use Rattle.timed_core.specs.Steps.Phase.{Boots, Rests}
 use Rattle.timed_core.specs.Steps.Label.{Stays, Puts, Readies}
-use Rattle.timed_core.specs.Shape.{Shape, IsEmpty}
+use Rattle.timed_core.specs.Shape.{Shape}
 use Rattle.core_story.specs.Values.{Values, first_values}
 use Rattle.code_steps.specs.Steps.{own, next}
 use Rattle.code_steps.proofs.BetweenLaws.{arrival_alone, alone_frame}
@@ -29,11 +29,11 @@ use Rattle.firmware_parts.specs.Layout.Part.{Boot, Taking}
 use Rattle.firmware_parts.specs.Runs.{Leads, turns}
 use Rattle.firmware_parts.specs.Vector.{AtBootEnd}
 use Rattle.code_story.specs.Code.{Code}
-use Rattle.code_story.specs.Relation.{AtReady, Past, InBoot, Resting}
+use Rattle.code_story.specs.Relation.{InBoot, Resting}
 use Rattle.code_story.proofs.ChipFacts.{no_return_by}
 use Rattle.code_story.proofs.ArrangedFacts.{boot_end_is_elsewhere, Elsewhere}
 use Rattle.code_story.proofs.KeptFacts.{untouched, still_stack, set_up_stays}
-use Rattle.code_story.proofs.ToldFacts.{NextFrom, Shows, told_by, shows_plainly, still_shows, running_turn, puts_nothing, by_off}
+use Rattle.code_story.proofs.ToldFacts.{NextFrom, told_by, shows_plainly, still_shows, running_turn, by_off}
 
 module _ (f : Code) where
   -- At power-on.
@@ -83,7 +83,7 @@ module _ (f : Code) where
           goes = refl;
           valued = (refl, left, refl);
           told = told_by f (Boots j) [] Readies outer c on.chip on (shows_plainly f (Boots j) [] Readies outer c on.chip on refl
-          (subst (Elsewhere f.l) (sym end.there) (boot_end_is_elsewhere f)) (no_return_by f.l.program (with_outer outer c) on is refl) (λ source. refl) (λ h. absurd (both_ways false refl h)) f.arranged.writes.intcon_listed);
+              (subst (Elsewhere f.l) (sym end.there) (boot_end_is_elsewhere f)) (no_return_by f.l.program (with_outer outer c) on is refl) (λ source. refl) (λ h. absurd (both_ways false refl h)) f.arranged.writes.intcon_listed);
           keeps = ready end;
         })
 

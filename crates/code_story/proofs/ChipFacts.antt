@@ -1,5 +1,5 @@
 -- Single steps of the chip that the code of a layout takes: what they leave, and which source it is that requests an interrupt.
-use Rattle.std.proofs.Common.{◌≡◌, ℕ, zero, suc, ◌+◌, ◌%◌, ◌≤◌, ◌==◌, ◌⊎◌, Bool, true, false, ◌&&◌, ◌||◌, Option, Some, None, get_or, ap, ap₂, sym, ◌∙◌, refl, arith, ⊎_elim}
+use Rattle.std.proofs.Common.{◌≡◌, ℕ, zero, suc, ◌+◌, ◌%◌, ◌==◌, Bool, true, false, ◌&&◌, ◌||◌, Option, Some, None, get_or, ap, ap₂, sym, ◌∙◌, refl, arith, ⊎_elim, ◌<◌, [], ◌↔◌}
 use Rattle.std.proofs.lemmas.Bool.{and_parts, and_from, or_cases, eqb-true, false_from_ne_true, both_ways}
 use Rattle.pic_isa.specs.declared.sources.Source.{Source}
 use Rattle.pic_isa.specs.declared.sources.Source.TheVariants.{T0, Int, Psp, Ad, Ssp, Ccp1, Tmr2, Tmr1, Ee, Bcl, Ccp2}
@@ -10,12 +10,16 @@ use Rattle.pic_regs.specs.Map.{Pir1, Pir2}
 use Rattle.pic_regs.specs.Registers.{Registers, flag, enable, bit_of, read, requested}
 use Rattle.pic_machine.specs.Chip.{Chip, advanced, popped, with_gie}
 use Rattle.pic_machine.specs.Results.{Done}
+use Rattle.pic_machine.specs.Boundary.{no_outer}
+use Rattle.pic_machine.proofs.TurnLaws.{taking}
+use Rattle.map_file.specs.declared.maps.MapEvent.{MapEvent}
 use Rattle.firmware_promises.specs.Urgent.{is_in_intcon}
+use Rattle.firmware_promises.proofs.HeardLaws.{heard_is_requested}
 use Rattle.code_steps.specs.Steps.{own_of, own}
 use Rattle.glue_steps.specs.Lines.{quiet, lowered}
 use Rattle.firmware_parts.specs.Layout.{Layout}
 use Rattle.firmware_parts.specs.Contexts.{AtLevel}
-use Rattle.code_story.specs.Arranged.{is_heard_by}
+use Rattle.code_story.specs.Arranged.{IsLevel, is_heard_by, EnablesAgree}
 
 pub some_same : {A : Type 0} {x y : A} → Some x ≡ Some y → x ≡ y
 some_same {A = A} {x = x} e = ap (λ (o : Option A). elim o [ Some z ↦ z | None ↦ x ]) e
@@ -100,16 +104,16 @@ in_second r peie (suc (suc (suc (suc (suc (suc (suc i)))))), e, f) = absurd (bot
 pub asking : (r : Registers) → r.intcon.b3 ≡ false → requested r ≡ true → Asking r
 asking r rbie request =
     either _ (r.intcon.b6 && (share_a_bit r.pie1 (read Pir1 r) || share_a_bit r.pie2 (read Pir2 r)))
-        (either _ (r.intcon.b3 && r.intcon.b0)
-            (either (r.intcon.b5 && r.intcon.b2) (r.intcon.b4 && r.intcon.b1)
-                (λ h. let both = and_parts r.intcon.b5 r.intcon.b2 h in record { source = T0; set = both.1; enabled = both.0; peripheral = refl })
-                (λ h. let both = and_parts r.intcon.b4 r.intcon.b1 h in record { source = Int; set = both.1; enabled = both.0; peripheral = refl }))
-            (λ h. absurd (both_ways r.intcon.b3 rbie (and_parts r.intcon.b3 r.intcon.b0 h).0)))
-        (λ h.
-            let both = and_parts r.intcon.b6 (share_a_bit r.pie1 (read Pir1 r) || share_a_bit r.pie2 (read Pir2 r)) h in
-            either (share_a_bit r.pie1 (read Pir1 r)) (share_a_bit r.pie2 (read Pir2 r))
-                (λ one. in_first r both.0 (shared r.pie1 (read Pir1 r) one)) (λ two. in_second r both.0 (shared r.pie2 (read Pir2 r) two)) both.1)
-        (and_parts r.intcon.b7 _ request).1
+    (either _ (r.intcon.b3 && r.intcon.b0)
+    (either (r.intcon.b5 && r.intcon.b2) (r.intcon.b4 && r.intcon.b1)
+    (λ h. let both = and_parts r.intcon.b5 r.intcon.b2 h in record { source = T0; set = both.1; enabled = both.0; peripheral = refl })
+    (λ h. let both = and_parts r.intcon.b4 r.intcon.b1 h in record { source = Int; set = both.1; enabled = both.0; peripheral = refl }))
+    (λ h. absurd (both_ways r.intcon.b3 rbie (and_parts r.intcon.b3 r.intcon.b0 h).0)))
+    (λ h.
+    let both = and_parts r.intcon.b6 (share_a_bit r.pie1 (read Pir1 r) || share_a_bit r.pie2 (read Pir2 r)) h in
+    either (share_a_bit r.pie1 (read Pir1 r)) (share_a_bit r.pie2 (read Pir2 r))
+    (λ one. in_first r both.0 (shared r.pie1 (read Pir1 r) one)) (λ two. in_second r both.0 (shared r.pie2 (read Pir2 r) two)) both.1)
+    (and_parts r.intcon.b7 _ request).1
 
 -- A chip whose enables are those of a level hears what they hear.
 module _ (l : Layout) (level : ℕ) (c : Chip) (at_level : AtLevel l level c) where
@@ -129,3 +133,25 @@ module _ (l : Layout) (level : ℕ) (c : Chip) (at_level : AtLevel l level c) wh
 
   pub is_heard_where : (source : Source) → enable source c.regs ≡ true → (is_in_intcon source || c.regs.intcon.b6) ≡ true → is_heard_by (l.enables level) source ≡ true
   is_heard_where source enabled peripheral = and_from _ _ (sym (its_enable source peripheral) ∙ enabled) (sym (its_peie source) ∙ peripheral)
+
+-- What the enables of a level hear, where they are those of the events above.
+module _ (l : Layout) (agree : EnablesAgree l) (level : ℕ) (c : Chip) (is_level : IsLevel l level) (at_level : AtLevel l level c) where
+  pub hears_above : (x : ℕ) → level < l.level x → (enable (l.source x) c.regs ≡ true) × ((is_in_intcon (l.source x) || c.regs.intcon.b6) ≡ true)
+  hears_above x above = hears l level c at_level (l.source x) (agree.heard level x is_level above)
+
+  abbrev heard_event : ℕ → MapEvent
+  heard_event x = record { name = []; source = l.source x; priority = 0; «open» = 0; commit = 0 }
+
+  pub requests_exactly : c.regs.intcon.b7 ≡ true → (requested c.regs ≡ true) ↔ ((x : ℕ) × (level < l.level x) × (flag (l.source x) c.regs ≡ true))
+  requests_exactly on = (asks, is_asked)
+    where
+      asks : requested c.regs ≡ true → (x : ℕ) × (level < l.level x) × (flag (l.source x) c.regs ≡ true)
+      asks request =
+          let one : Asking c.regs = asking c.regs at_level.rbie request in
+          let found = agree.only level one.source is_level (is_heard_where l level c at_level one.source one.enabled one.peripheral) in
+          (found.0, found.2, ap (λ source. flag source c.regs) found.1 ∙ one.set)
+
+      is_asked : (x : ℕ) × (level < l.level x) × (flag (l.source x) c.regs ≡ true) → requested c.regs ≡ true
+      is_asked found =
+          let its = hears_above found.0 found.1 in
+          heard_is_requested (heard_event found.0) (taking no_outer c) (and_from _ _ (and_from _ _ on its.0) its.1) found.2

@@ -13,7 +13,7 @@ use Rattle.pic_machine.specs.Chip.{Chip}
 use Rattle.pic_machine.specs.Results.{Done}
 use Rattle.pic_machine.specs.Boundary.{Outer, boundary}
 use Rattle.pic_machine.proofs.TurnLaws.{with_outer, step_of}
-use Rattle.timed_core.specs.Steps.{Run, Phase, Label, Above, Best, Before, at, fresh, top_level}
+use Rattle.timed_core.specs.Steps.{Run, Above, Best, fresh, top_level}
 use Rattle.timed_core.specs.Steps.Phase.{Chooses, Begins}
 use Rattle.timed_core.specs.Steps.Label.{Stays, Clears}
 use Rattle.timed_core.specs.Shape.{Shape, Tower}
@@ -25,7 +25,7 @@ use Rattle.code_steps.specs.Steps.{own, next}
 use Rattle.code_steps.specs.Ends.{Holds}
 use Rattle.code_steps.proofs.BetweenLaws.{arrival_alone}
 use Rattle.glue_steps.specs.declared.lines.Line.TheVariants.{Lower}
-use Rattle.glue_steps.specs.Lines.{did, lowered}
+use Rattle.glue_steps.specs.Lines.{did}
 use Rattle.glue_steps.specs.Laws.{StillIn}
 use Rattle.glue_steps.proofs.LineLaws.{flag_lowered}
 use Rattle.glue_steps.proofs.StillLaws.{still_flags}
@@ -37,9 +37,10 @@ use Rattle.firmware_parts.specs.Runs.{Leads, AtClear, Reacts}
 use Rattle.firmware_parts.specs.Vector.{Chosen}
 use Rattle.code_story.specs.Arranged.{IsPart, Spares, is_boot_part, leaves_states}
 use Rattle.code_story.specs.Code.{Code}
-use Rattle.code_story.specs.Relation.{level_of_top, Over, Paused, Beneath, InGlue, InRun, Dispatching, Entering, Choosing, Beginning, ShortAtOpen}
+use Rattle.code_story.specs.Laws.{is_window_part}
+use Rattle.code_story.specs.Relation.{level_of_top, InRun, Dispatching, Entering, Choosing, Beginning, ShortAtOpen}
 use Rattle.code_story.proofs.ChipFacts.{lowered_keeps, no_return_by, one_source}
-use Rattle.code_story.proofs.ArrangedFacts.{Elsewhere, is_window_part, clear_is_elsewhere, above_top, above_its_top, as_urgent, flag_is, flag_is_of}
+use Rattle.code_story.proofs.ArrangedFacts.{Elsewhere, clear_is_elsewhere, above_top, above_its_top, as_urgent, flag_is, flag_is_of}
 use Rattle.code_story.proofs.KeptFacts.{SameStack, untouched, past_stays, over_moves, level_moves, holds_same, easy_same}
 use Rattle.code_story.proofs.GlueFacts.{glue_stays, shown_stays, over_stays}
 use Rattle.code_story.proofs.TakingFacts.{paused_usual, paused_level, paused_low}
@@ -208,16 +209,16 @@ module _ (f : Code) (g : ℕ → Bool) (st : List Run) (v : Values) (outer : Out
         by (suc k) in_time (inr goes) =
             let step = goes x (arrival_alone outer c) in
             by_off f (Chooses j g) st v outer c step.0 chooses.glue.none_due chooses.glue.off step.1
-                (choosing_on k (Start way.event) real_there refl refl refl (λ y its low. let higher = way.above in omega (arith, low, higher)) (omega (arith, in_time)) step.0 step.2 step.3 step.4
-                (inr (record {
-                  event = way.event;
-                  steps = k;
-                  in_time = omega arith;
-                  set = still_flags f.l.program _ _ x step.0 step.2 (f.l.source way.event) ∙ (arrival_alone outer c).flags (f.l.source way.event) way.set;
-                  best = way.best;
-                  above = way.above;
-                  leads = subst (λ bytes. Leads f.l (Start way.event) (AtClear f.p f.m f.l f.Saved way.event chooses.chip) bytes k step.0.chip) (puts_nothing step.0.port step.3 step.4).1 step.5;
-                })))
+            (choosing_on k (Start way.event) real_there refl refl refl (λ y its low. let higher = way.above in omega (arith, low, higher)) (omega (arith, in_time)) step.0 step.2 step.3 step.4
+            (inr (record {
+              event = way.event;
+              steps = k;
+              in_time = omega arith;
+              set = still_flags f.l.program _ _ x step.0 step.2 (f.l.source way.event) ∙ (arrival_alone outer c).flags (f.l.source way.event) way.set;
+              best = way.best;
+              above = way.above;
+              leads = subst (λ bytes. Leads f.l (Start way.event) (AtClear f.p f.m f.l f.Saved way.event chooses.chip) bytes k step.0.chip) (puts_nothing step.0.port step.3 step.4).1 step.5;
+            })))
 
     -- The event that is chosen is the most urgent one of those whose flags were set at the taking.
     chosen : f.starting ≤ j → Chosen f.l chooses.chip (level_of_top f.l st) c → Entering f chooses.chip j g st c
@@ -238,12 +239,12 @@ module _ (f : Code) (g : ℕ → Bool) (st : List Run) (v : Values) (outer : Out
     dispatch (suc k) in_time (inr goes) =
         let step = goes x (arrival_alone outer c) in
         by_off f (Chooses j g) st v outer c step.0 chooses.glue.none_due chooses.glue.off step.1
-            (choosing_on (k + f.starting) Taking tt refl refl refl some_above (omega (arith, in_time)) step.0 step.2 step.3 step.4
-            (inl (record {
-              steps = k;
-              in_time = omega arith;
-              leads = subst (λ bytes. Leads f.l Taking (Chosen f.l chooses.chip (level_of_top f.l st)) bytes k step.0.chip) (puts_nothing step.0.port step.3 step.4).1 step.5;
-            })))
+        (choosing_on (k + f.starting) Taking tt refl refl refl some_above (omega (arith, in_time)) step.0 step.2 step.3 step.4
+        (inl (record {
+          steps = k;
+          in_time = omega arith;
+          leads = subst (λ bytes. Leads f.l Taking (Chosen f.l chooses.chip (level_of_top f.l st)) bytes k step.0.chip) (puts_nothing step.0.port step.3 step.4).1 step.5;
+        })))
 
     choosing_next : Dispatching f chooses.chip j st c ⊎ Entering f chooses.chip j g st c → NextFrom f (Chooses j g) st v (boundary f.l.program outer c)
     choosing_next (inl way) = dispatch way.steps way.in_time way.leads

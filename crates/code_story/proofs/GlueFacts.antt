@@ -1,6 +1,6 @@
 -- What is known of a chip with interrupts off stays so over a step of glue of a part.
-use Rattle.std.specs.Prelude.{ℕ, ◌<◌, ◌≤◌, Bool, true, false, List}
-use Rattle.std.proofs.Common.{◌≡◌, refl, sym, ap, subst, ◌∙◌}
+use Rattle.std.specs.Prelude.{ℕ, ◌<◌, ◌≤◌, true, false, List}
+use Rattle.std.proofs.Common.{◌≡◌, sym, ap, subst, ◌∙◌}
 use Rattle.efrp_meaning.specs.States.{IsState}
 use Rattle.pic_regs.specs.Bytes.{Byte}
 use Rattle.pic_machine.specs.Chip.{Chip}
@@ -15,8 +15,9 @@ use Rattle.firmware_parts.specs.Layout.{Part, piece}
 use Rattle.firmware_parts.specs.Contexts.{AtLevel, SameEnables}
 use Rattle.code_story.specs.Arranged.{IsPart, Spares, is_boot_part, leaves_states, leaves_enables}
 use Rattle.code_story.specs.Code.{Code}
+use Rattle.code_story.specs.Laws.{Touches}
 use Rattle.code_story.specs.Relation.{level_of_top, SameFrames, Over, Beneath, Past, InGlue, InRun}
-use Rattle.code_story.proofs.KeptFacts.{Touches, SameStack, still_touches, still_stack, past_stays, states_stay, frames_stay, enables_stay, level_moves, over_moves, beneath_moves}
+use Rattle.code_story.proofs.KeptFacts.{SameStack, still_touches, still_stack, past_stays, states_stay, frames_stay, enables_stay, level_moves, over_moves, beneath_moves}
 
 -- The enables of a level are those of the chip with what comes from outside.
 pub outer_level : (f : Code) (level : ℕ) (outer : Outer) (c : Chip) → AtLevel f.l level c → AtLevel f.l level (with_outer outer c)

@@ -1,41 +1,36 @@
 -- What a step of a part leaves: the state, what is set up, frames, enables, the return stack; and so what a run has to give back.
-use Rattle.std.specs.Prelude.{ℕ, suc, ◌+◌, ◌<◌, ◌≤◌, ◌==◌, Bool, true, false, ◌⊎◌, List, [], ◌∷◌, length, Option, Some, None, if◌then◌else◌}
-use Rattle.std.proofs.Common.{◌≡◌, refl, sym, ap, subst, ◌∙◌, arith, inl, inr, ⊎_elim}
+use Rattle.std.specs.Prelude.{ℕ, ◌+◌, ◌<◌, ◌≤◌, ◌==◌, Bool, true, false, ◌⊎◌, List, [], ◌∷◌, length, Option, Some, None, if◌then◌else◌}
+use Rattle.std.proofs.Common.{◌≡◌, refl, sym, ap, subst, ◌∙◌, arith, inl, inr}
 use Rattle.std.proofs.lemmas.Bool.{both_ways, eqb-true}
 use Rattle.frp_tree.specs.declared.syntax.Setup.{Setup}
 use Rattle.frp_tree.specs.Tree.{ProgramTree}
 use Rattle.efrp_meaning.specs.Meaning.{react}
 use Rattle.pic_isa.specs.Names.{register_at}
-use Rattle.pic_regs.specs.Bytes.{Byte, num, bits, zeros}
-use Rattle.pic_regs.specs.Map.{Reg, Absent, Indf, Pcl, Status, Fsr, Pclath, Intcon, Pir1, Pir2, Pie1, Pie2, Port, Tris, Plain, within, reg_at, existing}
-use Rattle.pic_regs.specs.Registers.{Registers, held, read, byte_at}
+use Rattle.pic_regs.specs.Bytes.{Byte, num}
+use Rattle.pic_regs.specs.Map.{Reg, Pclath, Intcon, Pie1, Pie2, Port, Tris, Plain, within, reg_at, existing}
+use Rattle.pic_regs.specs.Registers.{read}
 use Rattle.pic_regs.proofs.SetupRegisterLaws.{Suits, may_set_up}
 use Rattle.pic_machine.specs.Chip.{Chip}
 use Rattle.pic_machine.specs.Results.{Done}
 use Rattle.pic_machine.specs.Boundary.{Outer}
 use Rattle.pic_machine.proofs.TurnLaws.{with_outer}
 use Rattle.firmware_promises.specs.Setups.{setup_byte, last_setup}
+use Rattle.map_file.specs.declared.maps.Map.{Map}
 use Rattle.timed_core.specs.Steps.{Run}
 use Rattle.core_story.specs.Values.{Values, name_at}
 use Rattle.core_story.specs.Interface.{AreSetUp}
 use Rattle.code_steps.specs.declared.banks.Bank.{Bank}
 use Rattle.code_steps.specs.declared.banks.Bank.TheVariants.{Known, Unknown}
-use Rattle.code_steps.specs.Ends.{with_work_of, Holds}
+use Rattle.code_steps.specs.Ends.{Holds}
 use Rattle.glue_steps.specs.Laws.{StillIn}
-use Rattle.glue_steps.specs.Still.{with_glue_of, Off}
 use Rattle.firmware_parts.specs.Layout.{Layout, Part, Easy, Usual, is_told, piece}
 use Rattle.firmware_parts.specs.Layout.Part.{Work, Lock}
 use Rattle.firmware_parts.specs.Contexts.{SameEnables, AtLevel}
 use Rattle.firmware_parts.specs.Runs.{WorkStep, Reacts}
-use Rattle.code_story.specs.Arranged.{IsPart, WrittenBy, Spares, is_boot_part, leaves_states, leaves_enables, leaves_told, leaves_page}
+use Rattle.code_story.specs.Arranged.{WritesAgree, IsPart, WrittenBy, Spares, is_boot_part, leaves_states, leaves_enables, leaves_told, leaves_page}
 use Rattle.code_story.specs.Code.{Code}
-use Rattle.code_story.specs.Relation.{level_of_top, SameFrames, Over, Interrupts, Paused, Beneath, Past, InGlue}
-
--- What a part may have written, and RBIE.
-pub record Touches (l : Layout) (part : Part) (c d : Chip) : Type 0 where
-  pub plain : WrittenBy l part c.regs.plain d.regs.plain
-  pub tris : (n : ℕ) → (d.regs.tris n ≡ c.regs.tris n) ⊎ (l.may part (0x085 + n) ≡ true)
-  pub rbie : d.regs.intcon.b3 ≡ c.regs.intcon.b3
+use Rattle.code_story.specs.Laws.{Touches}
+use Rattle.code_story.specs.Relation.{level_of_top, SameFrames, Over, Beneath, Past}
 
 -- The return stack as it was.
 pub record SameStack (c d : Chip) : Type 0 where
@@ -170,26 +165,30 @@ set_up_named (s ∷ setups) a byte last = by (last_setup setups a) refl last (se
     by (Some b) later h named = named b later
     by None later h named = its_register s a byte (register_at s.register) refl h
 
-module _ (f : Code) where
+module _ (p : ProgramTree) (m : Map) (l : Layout) (writes : WritesAgree p m l) where
   -- It is TRIS of a port or a plain byte, and none but the boot writes it.
-  read_same : (part : Part) (c d : Chip) → IsPart f.l part → is_boot_part part ≡ false → Touches f.l part c d → (a byte : ℕ) → within 5 9 a ≡ false → last_setup f.p.setups a ≡ Some byte
+  read_same : (part : Part) (c d : Chip) → IsPart l part → is_boot_part part ≡ false → Touches l part c d → (a byte : ℕ) → within 5 9 a ≡ false → last_setup p.setups a ≡ Some byte
       → read (reg_at a) d.regs ≡ read (reg_at a) c.regs
   read_same part c d is_part later touches a byte other last = by (reg_at a) (may_set_up named.0 a named.1)
     where
       named : Named a
-      named = set_up_named f.p.setups a byte last
+      named = set_up_named p.setups a byte last
 
-      never : (address : ℕ) → address ≡ a → f.l.may part address ≡ false
-      never address same = ap (f.l.may part) same ∙ f.arranged.writes.set_up a byte other last part is_part later
+      never : (address : ℕ) → address ≡ a → l.may part address ≡ false
+      never address same = ap (l.may part) same ∙ writes.set_up a byte other last part is_part later
 
       by : (reg : Reg) → Suits named.0 a reg → read reg d.regs ≡ read reg c.regs
       by (Port n) suits = absurd (both_ways (within 5 9 a) other suits.1)
-      by (Tris n) suits = ap (existing (Tris n)) (unwritten (f.l.may part (0x085 + n)) (never (0x085 + n) suits.2) (touches.tris n))
-      by (Plain b) suits = unwritten (f.l.may part b) (never b suits.2) (touches.plain b)
+      by (Tris n) suits = ap (existing (Tris n)) (unwritten (l.may part (0x085 + n)) (never (0x085 + n) suits.2) (touches.tris n))
+      by (Plain b) suits = unwritten (l.may part b) (never b suits.2) (touches.plain b)
       by _ suits = absurd suits
 
+  pub set_ups_stay : (part : Part) (c d : Chip) → IsPart l part → is_boot_part part ≡ false → Touches l part c d → AreSetUp p c.regs → AreSetUp p d.regs
+  set_ups_stay part c d is_part later touches set_up a byte other last = ap num (read_same part c d is_part later touches a byte other last) ∙ set_up a byte other last
+
+module _ (f : Code) where
   pub set_up_stays : (part : Part) (c d : Chip) → IsPart f.l part → is_boot_part part ≡ false → Touches f.l part c d → AreSetUp f.p c.regs → AreSetUp f.p d.regs
-  set_up_stays part c d is_part later touches set_up a byte other last = ap num (read_same part c d is_part later touches a byte other last) ∙ set_up a byte other last
+  set_up_stays part c d is_part later touches set_up = set_ups_stay f.p f.m f.l f.arranged.writes part c d is_part later touches set_up
 
   pub past_stays : (part : Part) (v : Values) (c d : Chip) → IsPart f.l part → is_boot_part part ≡ false → Touches f.l part c d → Past f.p v c → Past f.p v d
   past_stays part v c d is_part later touches past = record {

@@ -1,6 +1,6 @@
 -- From a commit to the return, and what the interrupted chip gets back.
-use Rattle.std.specs.Prelude.{ℕ, zero, suc, ◌+◌, ◌-◌, ◌%◌, ◌<◌, ◌≤◌, ◌==◌, ◌⊎◌, Bool, true, false, ◌&&◌, not, List, [], ◌∷◌, length, Some}
-use Rattle.std.specs.List.{AllByRecursion, cons_option}
+use Rattle.std.specs.Prelude.{ℕ, zero, suc, ◌+◌, ◌%◌, ◌<◌, ◌≤◌, ◌==◌, true, false, List, [], ◌∷◌, length, Some}
+use Rattle.std.specs.List.{cons_option}
 use Rattle.std.proofs.Common.{◌≡◌, refl, sym, ap, subst, ◌∙◌, arith, inl, inr}
 use Rattle.std.proofs.Math.Bool.{and-true}
 use Rattle.std.proofs.lemmas.Bool.{both_ways}
@@ -19,19 +19,18 @@ use Rattle.core_story.specs.Values.{Values}
 use Rattle.core_story.specs.Interface.{Told, flag_at}
 use Rattle.code_steps.specs.declared.banks.Bank.TheVariants.{Known}
 use Rattle.code_steps.specs.Steps.{own}
-use Rattle.code_steps.specs.Between.{Others}
 use Rattle.code_steps.proofs.BetweenLaws.{arrival_alone}
 use Rattle.glue_steps.specs.Lines.{quiet}
 use Rattle.glue_steps.specs.Laws.{StillIn}
 use Rattle.firmware_parts.specs.Layout.{is_told, piece}
 use Rattle.firmware_parts.specs.Layout.Part.{Taking, Exit}
-use Rattle.firmware_parts.specs.Contexts.{SameEnables, AtLevel, Back}
+use Rattle.firmware_parts.specs.Contexts.{SameEnables, AtLevel}
 use Rattle.firmware_parts.specs.Runs.{Leads, AtReturn}
 use Rattle.code_story.specs.Code.{Code}
-use Rattle.code_story.specs.Relation.{level_of_top, AtReady, InWork, Over, Paused, Beneath, Past, Resting, Working, Lives, Leaving, Sim}
+use Rattle.code_story.specs.Relation.{level_of_top, AtReady, InWork, Beneath, Past, Resting, Leaving, Sim}
 use Rattle.code_story.proofs.ChipFacts.{returned, returns_is}
 use Rattle.code_story.proofs.ArrangedFacts.{Elsewhere, return_is_elsewhere, above_its_top, seven_beneath}
-use Rattle.code_story.proofs.KeptFacts.{untouched, past_stays, told_stays, level_moves, holds_same, easy_same, usual_same, frames_same, frames_less}
+use Rattle.code_story.proofs.KeptFacts.{untouched, past_stays, told_stays, level_moves, holds_same, easy_same, usual_same}
 use Rattle.code_story.proofs.GlueFacts.{its_touches, glue_stays, shown_stays, over_stays}
 use Rattle.code_story.proofs.ToldFacts.{NextFrom, Shows, told_by, still_shows, running_turn, puts_nothing, by_off}
 use Rattle.code_story.proofs.WorkLaws.{void_moves}
@@ -183,7 +182,7 @@ pub next_leaves : (f : Code) (e j : ℕ) (st : List Run) (v : Values) (outer : O
 next_leaves f e j [] v outer c shape leaves =
     let higher : 0 < f.l.level e = leaves.real in
     leaving_next f e [] v outer c tt higher j leaves j (omega arith)
-        (λ ends. leave_ends f e [] v outer c tt higher j leaves ends Rests refl (rests_again f e [] v outer c tt higher j leaves ends leaves.paused refl)) leaves.leads
+    (λ ends. leave_ends f e [] v outer c tt higher j leaves ends Rests refl (rests_again f e [] v outer c tt higher j leaves ends leaves.paused refl)) leaves.leads
 next_leaves f e j (r ∷ rs) v outer c shape leaves =
     let higher : f.l.level r.event < f.l.level e = above_its_top f (r ∷ rs) e shape.2 in
     let paused = leaves.paused in
@@ -191,18 +190,18 @@ next_leaves f e j (r ∷ rs) v outer c shape leaves =
     let void : r.void ≡ true = shape.0.0 in
     let told : is_told c ≡ true = leaves.told (f.arranged.levels.telling e r.event real higher) in
     leaving_next f e (r ∷ rs) v outer c shape.1 higher j leaves j (omega arith)
-        (λ ends. leave_ends f e (r ∷ rs) v outer c shape.1 higher j leaves ends Works refl (
-          record {
-            on_is = refl;
-            due_is = leaves.glue.none_due;
-            past = past_back f e (r ∷ rs) v outer c shape.1 higher j leaves ends;
-            shows = leaves.shows;
-            work = work_again f e (r ∷ rs) v outer c shape.1 higher j leaves ends r paused.0;
-            beneath = beneath_again f e (r ∷ rs) v outer c shape.1 higher j leaves ends r rs real (above_its_top f rs r.event (let its = shape.1 in its.1)) refl refl paused.2;
-          },
-          record {
-            told = λ locked. told ∙ sym void;
-            never_void = λ unlocked. absurd (both_ways (f.l.is_locked r.event) unlocked paused.1);
-            clean = λ fresh. absurd (both_ways r.void fresh void);
-          },
-        )) leaves.leads
+    (λ ends. leave_ends f e (r ∷ rs) v outer c shape.1 higher j leaves ends Works refl (
+      record {
+        on_is = refl;
+        due_is = leaves.glue.none_due;
+        past = past_back f e (r ∷ rs) v outer c shape.1 higher j leaves ends;
+        shows = leaves.shows;
+        work = work_again f e (r ∷ rs) v outer c shape.1 higher j leaves ends r paused.0;
+        beneath = beneath_again f e (r ∷ rs) v outer c shape.1 higher j leaves ends r rs real (above_its_top f rs r.event (let its = shape.1 in its.1)) refl refl paused.2;
+      },
+      record {
+        told = λ locked. told ∙ sym void;
+        never_void = λ unlocked. absurd (both_ways (f.l.is_locked r.event) unlocked paused.1);
+        clean = λ fresh. absurd (both_ways r.void fresh void);
+      },
+    )) leaves.leads

@@ -1,7 +1,7 @@
 -- The relation between the core and the chip is kept at each boundary; so firmware keeps what it promises, settles, keeps the account
 -- and the response, and is tied to the core of lists.
-use Rattle.std.specs.Prelude.{ℕ, ◌≤◌, ◌⊎◌, Bool, true, false, List, [], ◌∷◌, length}
-use Rattle.std.proofs.Common.{◌≡◌, refl, sym, ap, subst, ◌∙◌, arith, inl, inr}
+use Rattle.std.specs.Prelude.{◌≤◌, ◌⊎◌, Bool, true, false, List, [], ◌∷◌}
+use Rattle.std.proofs.Common.{◌≡◌, refl, sym, subst, ◌∙◌, arith, inl, inr}
 use Rattle.std.proofs.lemmas.Bool.{both_ways}
 use Rattle.hex_file.specs.declared.images.Image.{Image}
 use Rattle.pic_machine.specs.Chip.{Chip}

@@ -1,14 +1,13 @@
 -- Where an interrupt may be taken: at rest, and where one is due. What a taking leaves.
-use Rattle.std.specs.Prelude.{ℕ, zero, suc, Some, ◌+◌, ◌%◌, ◌<◌, ◌≤◌, ◌==◌, ◌⊎◌, Bool, true, false, ◌&&◌, not, List, [], ◌∷◌, length, min, if◌then◌else◌}
-use Rattle.std.proofs.Common.{◌≡◌, refl, sym, ap, subst, ◌∙◌, arith, inl, inr, ne_eqb, eq-eqb}
-use Rattle.std.proofs.lemmas.Bool.{both_ways, true_from_ne_false, false_from_ne_true}
+use Rattle.std.specs.Prelude.{ℕ, suc, Some, ◌+◌, ◌%◌, ◌<◌, ◌≤◌, Bool, true, false, List, [], ◌∷◌, length, min, if◌then◌else◌}
+use Rattle.std.proofs.Common.{◌≡◌, refl, sym, ap, subst, ◌∙◌, arith, inl, ne_eqb, eq-eqb}
+use Rattle.std.proofs.lemmas.Bool.{both_ways, true_from_ne_false}
 use Rattle.std.proofs.Math.Bool.{and-true}
 use Rattle.pic_regs.specs.Bytes.{updated, zeros}
 use Rattle.pic_regs.specs.Map.{Pclath, existing}
 use Rattle.pic_isa.specs.declared.sources.Source.{Source}
 use Rattle.pic_regs.specs.Registers.{flag, requested}
 use Rattle.pic_machine.specs.Chip.{Chip}
-use Rattle.pic_machine.specs.Results.{Done}
 use Rattle.pic_machine.specs.Boundary.{Outer, boundary, took}
 use Rattle.pic_machine.proofs.TurnLaws.{with_outer, step_of, taking}
 use Rattle.timed_core.specs.Steps.{Run, Phase, Label, Above, at, top_level, is_on}
@@ -22,16 +21,15 @@ use Rattle.core_story.specs.Interface.{Told, flag_at}
 use Rattle.code_steps.specs.declared.banks.Bank.TheVariants.{Known}
 use Rattle.code_steps.specs.Steps.{own}
 use Rattle.code_steps.specs.Ends.{Holds}
-use Rattle.code_steps.specs.Between.{Others}
 use Rattle.code_steps.proofs.BetweenLaws.{arrival_alone, alone_others}
 use Rattle.glue_steps.specs.Lines.{quiet}
-use Rattle.firmware_parts.specs.Layout.{Easy, Usual}
+use Rattle.firmware_parts.specs.Layout.{Usual}
 use Rattle.firmware_parts.specs.Layout.Part.{Taking}
 use Rattle.firmware_parts.specs.Contexts.{AtLevel}
 use Rattle.code_story.specs.Code.{Code}
 use Rattle.code_story.specs.Relation.{level_of_top, AtReady, InWork, Over, Paused, Beneath, Past, Resting, Working, Sim}
 use Rattle.code_story.proofs.ChipFacts.{no_return_by}
-use Rattle.code_story.proofs.ArrangedFacts.{Elsewhere, ready_is_elsewhere, above_top, above_its_top, top_is_level, heard_at, flag_is, flag_is_of, seven_beneath, request_is_above, above_is_requested}
+use Rattle.code_story.proofs.ArrangedFacts.{Elsewhere, ready_is_elsewhere, above_its_top, top_is_level, heard_at, flag_is, flag_is_of, seven_beneath, request_is_above, above_is_requested}
 use Rattle.code_story.proofs.KeptFacts.{untouched, past_stays, usual_same, easy_same}
 use Rattle.code_story.proofs.GlueFacts.{outer_level, run_beneath}
 use Rattle.code_story.proofs.ToldFacts.{NextFrom, is_plain, told_by, shows_plainly, running_turn, by_own, by_late, by_taking, by_due}
@@ -167,7 +165,7 @@ module _ (f : Code) where
         let lower : level_of_top f.l rs < f.l.level r.event = above_its_top f rs r.event tower.1 in
         let few : length (r ∷ rs) ≤ 7 = seven_beneath f (r ∷ rs) above.0 tower (above_its_top f (r ∷ rs) above.0 above.2) in
         takes_next (r ∷ rs) v outer c tower work.past work.shows (working_paused r rs outer c work.work locked (omega (arith, lower)) work.beneath)
-            (let top = work.beneath.over.top in omega (arith, top, few)) (let depth = work.beneath.over.depth in omega (arith, depth)) above ph goes later is_on_there
+        (let top = work.beneath.over.top in omega (arith, top, few)) (let depth = work.beneath.over.depth in omega (arith, depth)) above ph goes later is_on_there
 
     rest_stays : (due : Bool) → Resting f false v c → Resting f due v (record (with_outer outer c) { due = due })
     rest_stays due rest = record {
@@ -222,7 +220,7 @@ module _ (f : Code) where
           phase = Rests;
           stack = [];
           values = v;
-          goes = ((λ above. both_ways (requested (with_outer outer c).regs) none (above_is_requested f [] outer c (outer_level f 0 outer c rest.at_ready.heard) rest.on above)), refl);
+          goes = ((λ above. both_ways (requested (with_outer outer c).regs) none (above_is_requested f [] (with_outer outer c) (outer_level f 0 outer c rest.at_ready.heard) rest.on above)), refl);
           valued = (refl, refl);
           told = rest_told Stays (with_outer outer c) refl (λ source. refl) rest;
           keeps = subst (λ due. Resting f due v (with_outer outer c)) rest.due_is (rest_stays c.due rest);

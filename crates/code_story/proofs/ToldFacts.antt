@@ -1,5 +1,5 @@
 -- Own steps of the code as boundaries of the chip, and what they tell by the core's label.
-use Rattle.std.specs.Prelude.{ℕ, ◌<◌, ◌==◌, Bool, true, false, ◌&&◌, not, ◌⊎◌, List, [], ◌∷◌, Option, Some, None, IfSome}
+use Rattle.std.specs.Prelude.{ℕ, ◌<◌, ◌==◌, Bool, true, false, ◌&&◌, not, ◌⊎◌, List, [], Option, Some, None, IfSome}
 use Rattle.std.specs.List.{cons_option}
 use Rattle.std.proofs.Common.{◌≡◌, refl, sym, ap, subst, ◌∙◌, inl, inr}
 use Rattle.std.proofs.lemmas.Bool.{both_ways}
@@ -16,14 +16,14 @@ use Rattle.map_file.specs.declared.maps.Map.{Map}
 use Rattle.firmware_promises.specs.MapNames.{is_listed}
 use Rattle.firmware_promises.specs.Counts.{put_by}
 use Rattle.timed_core.specs.Steps.{Run, Phase, Label, is_on}
-use Rattle.timed_core.specs.Steps.Label.{Takes, Clears, Opens, Commits, Returns, Stays}
+use Rattle.timed_core.specs.Steps.Label.{Takes, Clears, Opens, Commits, Returns}
 use Rattle.timed_core.specs.Tale.{is_clearing}
 use Rattle.timed_core.specs.Counts.{is_commit}
 use Rattle.timed_core.specs.Promises.{is_boot, is_taking}
 use Rattle.core_story.specs.Values.{Values}
 use Rattle.core_story.specs.Interface.{Told, Next, is_return, is_opening}
 use Rattle.code_steps.specs.Steps.{own}
-use Rattle.code_steps.proofs.OwnLaws.{turned, turned_late, own_boundary, own_late}
+use Rattle.code_steps.proofs.OwnLaws.{own_boundary, own_late}
 use Rattle.glue_steps.specs.Laws.{StillIn}
 use Rattle.glue_steps.specs.Still.{Off}
 use Rattle.glue_steps.proofs.StillLaws.{still_flags}
@@ -34,8 +34,9 @@ use Rattle.firmware_parts.specs.Contexts.{AtLevel}
 use Rattle.firmware_parts.specs.Runs.{WorkStep}
 use Rattle.code_story.specs.Arranged.{IsPart}
 use Rattle.code_story.specs.Code.{Code}
+use Rattle.code_story.specs.Laws.{is_window_part}
 use Rattle.code_story.specs.Relation.{level_of_top, Sim}
-use Rattle.code_story.proofs.ArrangedFacts.{Elsewhere, is_window_part, part_is_elsewhere, above_its_top, top_is_level, heard_at}
+use Rattle.code_story.proofs.ArrangedFacts.{Elsewhere, part_is_elsewhere, above_its_top, top_is_level, heard_at}
 
 -- What the own step at a boundary is to show for its label: `after` is the chip behind it.
 pub record Shows (m : Map) (l : Layout) (ph : Phase) (st : List Run) (label : Label) (outer : Outer) (c after : Chip) (done : Done) : Type 0 where
@@ -142,14 +143,14 @@ module _ (f : Code) where
       → StillIn f.l.program (piece f.l part) (with_outer outer c) done → Shows f.m f.l ph st label outer c done.chip done
   still_shows part ph st label outer c done is_part other plain off step =
       shows_plainly ph st label outer c done.chip done plain (part_is_elsewhere f part c.pc is_part other step.inside) step.no_return
-          (λ source. still_flags f.l.program _ _ (with_outer outer c) done step source) (λ on. absurd (both_ways (is_on ph) off on)) (listed_by part done.wrote is_part step.wrote)
+      (λ source. still_flags f.l.program _ _ (with_outer outer c) done step source) (λ on. absurd (both_ways (is_on ph) off on)) (listed_by part done.wrote is_part step.wrote)
 
   pub work_shows : (e : ℕ) (ph : Phase) (st : List Run) (label : Label) (outer : Outer) (c after : Chip) (done : Done) → IsPart f.l (Work e) → is_plain label ≡ true
       → ((source : Source) → flag source after.regs ≡ flag source done.chip.regs) → (is_on ph ≡ true → (c.regs.intcon.b7 ≡ true) × AtLevel f.l (level_of_top f.l st) (with_outer outer c))
       → WorkStep f.l e (with_outer outer c) done → Shows f.m f.l ph st label outer c after done
   work_shows e ph st label outer c after done is_part plain same heard step =
       shows_plainly ph st label outer c after done plain (part_is_elsewhere f (Work e) c.pc is_part refl step.inside) step.no_return
-          (λ source. same source ∙ ap (λ (x : Chip). flag source x.regs) step.kept) heard (listed_by (Work e) done.wrote is_part step.wrote)
+      (λ source. same source ∙ ap (λ (x : Chip). flag source x.regs) step.kept) heard (listed_by (Work e) done.wrote is_part step.wrote)
 
   -- Boundaries: with GIE clear the own step; with it set the own step where none is requested, and a late one where it is; and takings.
   module _ (ph : Phase) (st : List Run) (v : Values) (outer : Outer) (c : Chip) where

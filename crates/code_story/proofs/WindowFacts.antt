@@ -1,5 +1,5 @@
 -- A run with interrupts off: on the way to its work, to its open, through its window.
-use Rattle.std.specs.Prelude.{ℕ, zero, suc, ◌+◌, ◌%◌, ◌<◌, ◌≤◌, ◌==◌, ◌⊎◌, Bool, true, false, ◌&&◌, not, List, [], ◌∷◌, ◌++◌, length, map, Option, Some, None}
+use Rattle.std.specs.Prelude.{ℕ, zero, suc, ◌%◌, ◌<◌, ◌≤◌, ◌==◌, ◌⊎◌, true, false, List, [], ◌∷◌, ◌++◌, length, Option, Some, None}
 use Rattle.std.specs.List.{cons_option}
 use Rattle.std.proofs.Common.{◌≡◌, refl, sym, ap, subst, ◌∙◌, arith, inl, inr, ne_eqb, eq-eqb}
 use Rattle.std.proofs.Math.Bool.{and-true}
@@ -7,8 +7,6 @@ use Rattle.std.proofs.lemmas.Bool.{both_ways, cases_eq}
 use Rattle.std.proofs.lemmas.List.{length-map}
 use Rattle.efrp_meaning.specs.Meaning.{react}
 use Rattle.efrp_meaning.specs.States.{IsState}
-use Rattle.pic_isa.specs.declared.sources.Source.{Source}
-use Rattle.pic_regs.specs.Bytes.{Byte}
 use Rattle.pic_regs.specs.Registers.{flag}
 use Rattle.pic_machine.specs.declared.steps.PortWrite.{PortWrite}
 use Rattle.pic_machine.specs.Chip.{Chip}
@@ -21,13 +19,10 @@ use Rattle.timed_core.specs.Steps.{Run, Phase, Label, at, fresh, voided, is_on}
 use Rattle.timed_core.specs.Steps as core
 use Rattle.timed_core.specs.Steps.Phase.{Works, Begins, Repeats, Nears, Copies, Leaves}
 use Rattle.timed_core.specs.Steps.Label.{Stays, Puts, Turns, Opens, Commits}
-use Rattle.timed_core.specs.Tale.{is_clearing}
-use Rattle.timed_core.specs.Counts.{is_commit}
 use Rattle.timed_core.specs.Promises.{is_boot}
-use Rattle.timed_core.specs.Shape.{Shape, Tower, TopIs}
+use Rattle.timed_core.specs.Shape.{Shape, Tower}
 use Rattle.core_story.specs.Values.{Values, name_at}
-use Rattle.core_story.specs.Interface.{flag_at, is_opening}
-use Rattle.code_steps.specs.declared.banks.Bank.TheVariants.{Known}
+use Rattle.core_story.specs.Interface.{flag_at}
 use Rattle.code_steps.specs.Steps.{own, next}
 use Rattle.code_steps.proofs.BetweenLaws.{arrival_alone}
 use Rattle.glue_steps.specs.Lines.{did}
@@ -37,13 +32,14 @@ use Rattle.firmware_parts.specs.Layout.{Part, piece}
 use Rattle.firmware_parts.specs.Layout.Part.{Taking, Begin, Lock, Open, Copying, Commit}
 use Rattle.firmware_parts.specs.Contexts.{AtLevel}
 use Rattle.firmware_parts.specs.Runs.{Leads, AtOn, AtOpen, AtCommit, Opened, Committed, Reacts, turns}
-use Rattle.code_story.specs.Arranged.{IsPart, Spares, StandsAlone, is_boot_part, leaves_states, leaves_enables}
+use Rattle.code_story.specs.Arranged.{IsPart, StandsAlone}
 use Rattle.code_story.specs.Code.{Code}
-use Rattle.code_story.specs.Relation.{level_of_top, InWork, Over, Interrupts, Paused, Beneath, Past, InGlue, Working, Lives, InRun, Beginning, ShortAtOpen, Nearing, InWindow, Leaving, Sim}
+use Rattle.code_story.specs.Laws.{is_window_part}
+use Rattle.code_story.specs.Relation.{level_of_top, Over, Paused, Working, Lives, InRun, Beginning, ShortAtOpen, InWindow, Leaving, Sim}
 use Rattle.code_story.proofs.ChipFacts.{no_return_by}
-use Rattle.code_story.proofs.ArrangedFacts.{Elsewhere, is_window_part, on_is_elsewhere, above_its_top, highest}
+use Rattle.code_story.proofs.ArrangedFacts.{Elsewhere, on_is_elsewhere, above_its_top, highest}
 use Rattle.code_story.proofs.KeptFacts.{untouched, past_stays, page_stays, reacts_stay, easy_same, usual_same}
-use Rattle.code_story.proofs.GlueFacts.{its_touches, glue_stays, shown_stays, run_stays, run_values, level_stays, past_values, glue_values, run_beneath}
+use Rattle.code_story.proofs.GlueFacts.{its_touches, shown_stays, run_stays, run_values, level_stays, run_beneath}
 use Rattle.code_story.proofs.ToldFacts.{NextFrom, Shows, told_by, shows_plainly, still_shows, listed_by, running_turn, puts_nothing, puts_last, by_off}
 
 -- A commit makes the runs beneath void, and changes nothing else of them.
@@ -167,13 +163,13 @@ module _ (f : Code) (r : Run) (rs : List Run) (v : Values) (outer : Outer) (c : 
     beginning (suc k) shows long heard (inr goes) =
         let step = goes x (arrival_alone outer c) in
         by_off f (ph (suc k)) (r ∷ rs) v outer c step.0 run.glue.none_due run.glue.off step.1
-            (run_goes_on (ph (suc k)) (ph k) (Begin e) (real, long) refl (off (suc k)) (stays k (suc k) (omega arith)) step.0 step.2 step.3 step.4
-            (sim k step.0.chip (run_stays f (Begin e) (real, long) outer c step.0 step.2 e rs v refl refl (λ y its most. most) low run) (record {
-              shows = shown_stays f (Begin e) (real, long) outer c step.0 step.2 v refl shows;
-              long = long;
-              heard = level_stays f (Begin e) (real, long) outer c step.0 step.2 (f.l.level e) refl heard;
-              leads = subst (λ bytes. Leads f.l (Begin e) (AtOn f.l e) bytes k step.0.chip) (puts_nothing step.0.port step.3 step.4).1 step.5;
-            })))
+        (run_goes_on (ph (suc k)) (ph k) (Begin e) (real, long) refl (off (suc k)) (stays k (suc k) (omega arith)) step.0 step.2 step.3 step.4
+        (sim k step.0.chip (run_stays f (Begin e) (real, long) outer c step.0 step.2 e rs v refl refl (λ y its most. most) low run) (record {
+          shows = shown_stays f (Begin e) (real, long) outer c step.0 step.2 v refl shows;
+          long = long;
+          heard = level_stays f (Begin e) (real, long) outer c step.0 step.2 (f.l.level e) refl heard;
+          leads = subst (λ bytes. Leads f.l (Begin e) (AtOn f.l e) bytes k step.0.chip) (puts_nothing step.0.port step.3 step.4).1 step.5;
+        })))
 
   -- The open.
   module _ (ph : Phase) (past_boot : is_boot ph ≡ false) (off : is_on ph ≡ false) (goes : core.Step f.t (flag_at f.m x.regs) ph (Opens e) (r ∷ rs) (at (Copies f.t.copying) (r ∷ rs)))
@@ -258,13 +254,15 @@ module _ (f : Code) (r : Run) (rs : List Run) (v : Values) (outer : Outer) (c : 
   nearing (suc k) shows long reacts (inr goes) =
       let step = goes x (arrival_alone outer c) in
       by_off f (Nears (suc k)) (r ∷ rs) v outer c step.0 run.glue.none_due run.glue.off step.1
-          (run_goes_on (Nears (suc k)) (Nears k) (Lock e) (real, long) refl refl (k, omega arith, refl) step.0 step.2 step.3 step.4
-          (run_stays f (Lock e) (real, long) outer c step.0 step.2 e rs v refl refl (λ y its most. most) low run, record {
-            shows = shown_stays f (Lock e) (real, long) outer c step.0 step.2 v refl shows;
-            long = long;
-            reacts = reacts_stay f e c step.0.chip (real, long) (its_touches f (Lock e) (real, long) outer c step.0 step.2) reacts;
-            leads = subst (λ bytes. Leads f.l (Lock e) (AtOpen f.l e) bytes k step.0.chip) (puts_nothing step.0.port step.3 step.4).1 step.5;
-          }))
+      (run_goes_on (Nears (suc k)) (Nears k) (Lock e) (real, long) refl refl (k, omega arith, refl) step.0 step.2 step.3 step.4 (
+        run_stays f (Lock e) (real, long) outer c step.0 step.2 e rs v refl refl (λ y its most. most) low run,
+        record {
+          shows = shown_stays f (Lock e) (real, long) outer c step.0 step.2 v refl shows;
+          long = long;
+          reacts = reacts_stay f e c step.0.chip (real, long) (its_touches f (Lock e) (real, long) outer c step.0 step.2) reacts;
+          leads = subst (λ bytes. Leads f.l (Lock e) (AtOpen f.l e) bytes k step.0.chip) (puts_nothing step.0.port step.3 step.4).1 step.5;
+        },
+      ))
 
   -- In the window.
   module _ (k : ℕ) (window : InWindow f e (suc k) v c) (done : Done) (step : StillIn f.l.program (piece f.l (Copying e)) x done) (rest : List PortWrite)

@@ -1,15 +1,14 @@
 -- The work of the top run, with interrupts on: its steps, its lock, and either of them late.
-use Rattle.std.specs.Prelude.{ℕ, zero, suc, ◌+◌, ◌<◌, ◌≤◌, ◌==◌, ◌⊎◌, Bool, true, false, ◌&&◌, not, List, [], ◌∷◌, Some}
+use Rattle.std.specs.Prelude.{ℕ, zero, suc, ◌<◌, ◌≤◌, Bool, true, false, List, [], ◌∷◌, Some}
 use Rattle.std.proofs.Common.{◌≡◌, refl, sym, ap, subst, ◌∙◌, arith, inl, inr}
 use Rattle.std.proofs.lemmas.Bool.{both_ways, true_from_ne_false}
-use Rattle.pic_isa.specs.declared.sources.Source.{Source}
-use Rattle.pic_regs.specs.Registers.{flag, requested}
+use Rattle.pic_regs.specs.Registers.{requested}
 use Rattle.pic_machine.specs.Chip.{Chip}
 use Rattle.pic_machine.specs.Results.{Done}
 use Rattle.pic_machine.specs.Boundary.{Outer, boundary}
 use Rattle.pic_machine.proofs.TurnLaws.{with_outer, step_of}
 use Rattle.firmware_promises.specs.Counts.{put_by}
-use Rattle.timed_core.specs.Steps.{Run, Phase, Label, Above, locked, is_on}
+use Rattle.timed_core.specs.Steps.{Run, Label, Above, locked, is_on}
 use Rattle.timed_core.specs.Steps.Phase.{Works, Owes}
 use Rattle.timed_core.specs.Steps.Label.{Stays, Delays, Locks, Slips}
 use Rattle.timed_core.specs.Shape.{Shape, Tower}
@@ -20,18 +19,18 @@ use Rattle.code_steps.specs.Ends.{Holds}
 use Rattle.pic_regs.specs.Bytes.{Byte}
 use Rattle.code_steps.proofs.BetweenLaws.{arrival_alone, alone_others}
 use Rattle.glue_steps.specs.Lines.{did}
-use Rattle.firmware_parts.specs.Layout.{is_told}
 use Rattle.firmware_parts.specs.Layout.Part.{Taking, Work}
 use Rattle.firmware_parts.specs.Contexts.{SameEnables, AtLevel}
 use Rattle.firmware_parts.specs.Runs.{Void, Clean, AtLock, WorkStep, Reacts, turns}
 use Rattle.code_story.specs.Arranged.{IsPart}
 use Rattle.code_story.specs.Code.{Code}
-use Rattle.code_story.specs.Relation.{level_of_top, SameFrames, InWork, Beneath, Past, Working, Lives, InRun, Beginning, Nearing, Sim}
+use Rattle.code_story.specs.Laws.{Touches}
+use Rattle.code_story.specs.Relation.{level_of_top, Beneath, Past, Working, Lives, InRun, Sim}
 use Rattle.code_story.proofs.ChipFacts.{some_same, no_return_by}
 use Rattle.code_story.proofs.ArrangedFacts.{Elsewhere, lock_is_elsewhere, above_its_top, request_is_above, above_is_requested}
-use Rattle.code_story.proofs.KeptFacts.{Touches, SameStack, untouched, work_touches, work_stack, work_enables, past_stays, states_stay, told_stays, frames_stay, level_moves, holds_same, easy_same, usual_same, beneath_moves}
+use Rattle.code_story.proofs.KeptFacts.{SameStack, untouched, work_touches, work_stack, work_enables, past_stays, states_stay, told_stays, frames_stay, level_moves, holds_same, easy_same, usual_same, beneath_moves}
 use Rattle.code_story.proofs.GlueFacts.{outer_level, run_beneath}
-use Rattle.code_story.proofs.ToldFacts.{NextFrom, Shows, is_plain, told_by, shows_plainly, work_shows, running_turn, by_own, by_late, by_taking}
+use Rattle.code_story.proofs.ToldFacts.{NextFrom, is_plain, told_by, shows_plainly, work_shows, running_turn, by_own, by_late, by_taking}
 use Rattle.code_story.proofs.TakingFacts.{locked_below, run_takes}
 use Rattle.code_story.proofs.WorkLaws.{void_moves}
 
@@ -58,7 +57,7 @@ module _ (f : Code) (r : Run) (rs : List Run) (v : Values) (outer : Outer) (c : 
   asked request = request_is_above f (r ∷ rs) x its_level request
 
   none_above : requested x.regs ≡ false → Above f.t now (f.t.level e) → ⊥
-  none_above none above = both_ways (requested x.regs) none (above_is_requested f (r ∷ rs) outer c its_level work.on_is above)
+  none_above none above = both_ways (requested x.regs) none (above_is_requested f (r ∷ rs) x its_level work.on_is above)
 
   heard_there : is_on Works ≡ true → (c.regs.intcon.b7 ≡ true) × AtLevel f.l (level_of_top f.l (r ∷ rs)) x
   heard_there on = (work.on_is, its_level)

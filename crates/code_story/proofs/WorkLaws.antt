@@ -1,5 +1,5 @@
 -- The work of a run goes on over whole runs of others.
-use Rattle.std.proofs.Common.{◌≡◌, ℕ, zero, suc, ◌∙◌, inl, inr}
+use Rattle.std.proofs.Common.{ℕ, zero, suc, ◌∙◌, inl, inr}
 use Rattle.pic_machine.specs.Chip.{Chip}
 use Rattle.code_steps.specs.Between.{Others}
 use Rattle.code_steps.proofs.BetweenLaws.{others_frame, holds_stays}

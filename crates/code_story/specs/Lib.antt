@@ -1,3 +1,4 @@
 pub mod Arranged
 pub mod Code
+pub mod Laws
 pub mod Relation

@@ -1,6 +1,6 @@
 -- The relation between the core of priorities and a chip that runs the code of a layout: what is known of the chip by the core's
 -- phase, its stack and the values.
-use Rattle.std.specs.Prelude.{◌≡◌, ℕ, zero, suc, ◌+◌, ◌%◌, ◌<◌, ◌≤◌, ◌⊎◌, Bool, true, false, List, [], ◌∷◌, ◌++◌, length}
+use Rattle.std.specs.Prelude.{◌≡◌, ℕ, suc, ◌+◌, ◌%◌, ◌<◌, ◌≤◌, ◌⊎◌, Bool, true, false, List, [], ◌∷◌, ◌++◌, length}
 use Rattle.frp_tree.specs.Tree.{ProgramTree}
 use Rattle.efrp_meaning.specs.States.{IsState}
 use Rattle.pic_regs.specs.Bytes.{zeros}

@@ -1,5 +1,5 @@
 -- Code of three events on three levels, the top one's short or long: it is arranged as `Arranged` says.
-use Rattle.std.specs.Prelude.{ℕ, zero, suc, ◌+◌, ◌*◌, ◌-◌, ◌/◌, ◌%◌, ◌<◌, ◌≤◌, ◌==◌, ◌⊎◌, ◌↔◌, Bool, true, false, ◌&&◌, ◌||◌, nat_lt, nat_le, List, [], ◌∷◌, Option, Some, None, codes, if◌then◌else◌}
+use Rattle.std.specs.Prelude.{ℕ, zero, suc, ◌+◌, ◌*◌, ◌-◌, ◌/◌, ◌%◌, ◌<◌, ◌≤◌, ◌==◌, ◌↔◌, Bool, true, false, ◌&&◌, ◌||◌, nat_lt, nat_le, List, [], ◌∷◌, Option, Some, None, codes, if◌then◌else◌}
 use Rattle.std.proofs.Common.{◌≡◌, refl, sym, ap, ap₂, subst, ◌∙◌, arith, inl, inr, add-zero}
 use Rattle.std.proofs.lemmas.Bool.{and_parts, or_cases, both_ways, eqb-true, ltb-true, le-leb, lt-ltb, and_from, or_left}
 use Rattle.frp_tree.specs.declared.syntax.Ty.TheVariants.{U8}
@@ -13,21 +13,19 @@ use Rattle.pic_isa.specs.Sources.{flag_of}
 use Rattle.pic_isa.specs.declared.sources.Source.{Source}
 use Rattle.pic_isa.specs.declared.sources.Source.TheVariants.{T0, Int, Tmr1}
 use Rattle.pic_regs.specs.Bytes.{Byte, num}
-use Rattle.pic_regs.specs.Map.{within}
 use Rattle.pic_machine.specs.declared.steps.PortWrite.{PortWrite}
 use Rattle.map_file.specs.declared.maps.MapEvent.{MapEvent}
 use Rattle.map_file.specs.declared.maps.Map.{Map}
 use Rattle.firmware_promises.specs.MapNames.{is_listed}
 use Rattle.firmware_promises.specs.Setups.{last_setup}
 use Rattle.priority_masks.specs.declared.tables.Enables.{Enables}
-use Rattle.timed_core.specs.Timing.{Timing}
 use Rattle.core_story.specs.Values.{item, name_at}
 use Rattle.core_story.specs.Interface.{Fitted}
 use Rattle.code_steps.specs.declared.banks.Bank.TheVariants.{Known}
 use Rattle.firmware_parts.specs.Times.{times, dispatching, starting}
 use Rattle.firmware_parts.specs.Layout.{Layout, Part}
 use Rattle.firmware_parts.specs.Layout.Part.{Boot, Taking, Start, Begin, Work, Lock, Open, Copying, Commit, Exit}
-use Rattle.code_story.specs.Arranged.{IsPart, IsEventOf, LevelsAgree, IsLevel, is_heard_by, EnablesAgree, StandsAlone, PlacesAgree, Spares, is_boot_part, leaves_states, leaves_enables, leaves_told, leaves_page, WritesAgree, StatesAgree, Arranged}
+use Rattle.code_story.specs.Arranged.{IsEventOf, LevelsAgree, IsLevel, is_heard_by, EnablesAgree, PlacesAgree, Spares, is_boot_part, leaves_states, leaves_enables, leaves_told, leaves_page, WritesAgree, StatesAgree, Arranged}
 use Rattle.code_story.proofs.KeptFacts.{unwritten}
 
 -- A counter of Low that is shown on port B; Mid and High change nothing.
