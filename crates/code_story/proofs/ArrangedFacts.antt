@@ -1,5 +1,5 @@
 -- What an arrangement says of levels, events, places and requests, in the words of the core and of the map.
-use Rattle.std.specs.Prelude.{ℕ, ◌<◌, ◌≤◌, ◌==◌, ◌⊎◌, Bool, true, false, ◌||◌, List, [], ◌∷◌, length, Some}
+use Rattle.std.specs.Prelude.{ℕ, ◌<◌, ◌≤◌, ◌==◌, ◌⊎◌, true, false, ◌||◌, List, [], ◌∷◌, length, Some}
 use Rattle.std.proofs.Common.{◌≡◌, refl, sym, ap, subst, ◌∙◌, arith, inl, inr, ne_eqb}
 use Rattle.std.proofs.lemmas.Bool.{and_from, both_ways, cases_lt}
 use Rattle.pic_regs.specs.Registers.{Registers, flag, enable, requested}
@@ -9,14 +9,12 @@ use Rattle.pic_machine.proofs.TurnLaws.{with_outer, taking, requested-on}
 use Rattle.map_file.specs.declared.maps.Map.{Map}
 use Rattle.map_file.specs.declared.maps.MapEvent.{MapEvent}
 use Rattle.firmware_promises.specs.Urgent.{is_in_intcon, is_heard}
-use Rattle.firmware_promises.proofs.HeardLaws.{heard_is_requested}
 use Rattle.timed_core.specs.Steps.{Run, Above, Before, top_level}
 use Rattle.timed_core.specs.Shape.{Tower}
 use Rattle.core_story.specs.Values.{item}
 use Rattle.core_story.specs.Interface.{flag_at}
 use Rattle.core_story.proofs.ItemLaws.{at_item, bit_is_of, event_with_level}
 use Rattle.firmware_parts.specs.Layout.{Layout, Part}
-use Rattle.firmware_parts.specs.Layout.Part.{Open, Commit}
 use Rattle.firmware_parts.specs.Contexts.{AtLevel}
 use Rattle.code_story.specs.Arranged.{PlacesAgree, IsPart, IsLevel, IsEventOf}
 use Rattle.code_story.specs.Code.{Code}

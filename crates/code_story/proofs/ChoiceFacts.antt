@@ -36,7 +36,7 @@ use Rattle.firmware_parts.specs.Contexts.{SameEnables}
 use Rattle.firmware_parts.specs.Runs.{Leads, AtClear, Reacts}
 use Rattle.firmware_parts.specs.Vector.{Chosen}
 use Rattle.code_story.specs.Arranged.{IsPart, Spares, is_boot_part, leaves_states}
-use Rattle.code_story.specs.Code.{Code}
+use Rattle.code_story.specs.Code.{GivesBack, Code}
 use Rattle.code_story.specs.Laws.{is_window_part}
 use Rattle.code_story.specs.Relation.{level_of_top, InRun, Dispatching, Entering, Choosing, Beginning, ShortAtOpen}
 use Rattle.code_story.proofs.ChipFacts.{lowered_keeps, no_return_by, one_source}
@@ -82,7 +82,7 @@ module _ (f : Code) (g : ℕ → Bool) (st : List Run) (v : Values) (outer : Out
       }
 
     -- At the clearing.
-    module _ (h : ℕ) (set : flag (f.l.source h) c.regs ≡ true) (best : Best f.t g h) (higher : level_of_top f.l st < f.l.level h) (ends : AtClear f.p f.m f.l f.Saved h chooses.chip c) where
+    module _ (h : ℕ) (set : flag (f.l.source h) c.regs ≡ true) (best : Best f.t g h) (higher : level_of_top f.l st < f.l.level h) (ends : AtClear f.p f.m f.l (GivesBack f.t f.l) h chooses.chip c) where
       real : 0 < f.l.level h
       real = omega (arith, higher)
 
@@ -203,7 +203,7 @@ module _ (f : Code) (g : ℕ → Bool) (st : List Run) (v : Values) (outer : Out
         real_there : 0 < f.l.level way.event
         real_there = let higher = way.above in omega (arith, higher)
 
-        by : (k : ℕ) → k ≤ j → Leads f.l (Start way.event) (AtClear f.p f.m f.l f.Saved way.event chooses.chip) [] k c → NextFrom f (Chooses j g) st v (boundary f.l.program outer c)
+        by : (k : ℕ) → k ≤ j → Leads f.l (Start way.event) (AtClear f.p f.m f.l (GivesBack f.t f.l) way.event chooses.chip) [] k c → NextFrom f (Chooses j g) st v (boundary f.l.program outer c)
         by zero in_time ends = choice_ends way.event way.set way.best way.above ends.1
         by (suc k) in_time (inl ends) = choice_ends way.event way.set way.best way.above ends.1
         by (suc k) in_time (inr goes) =
@@ -217,7 +217,7 @@ module _ (f : Code) (g : ℕ → Bool) (st : List Run) (v : Values) (outer : Out
               set = still_flags f.l.program _ _ x step.0 step.2 (f.l.source way.event) ∙ (arrival_alone outer c).flags (f.l.source way.event) way.set;
               best = way.best;
               above = way.above;
-              leads = subst (λ bytes. Leads f.l (Start way.event) (AtClear f.p f.m f.l f.Saved way.event chooses.chip) bytes k step.0.chip) (puts_nothing step.0.port step.3 step.4).1 step.5;
+              leads = subst (λ bytes. Leads f.l (Start way.event) (AtClear f.p f.m f.l (GivesBack f.t f.l) way.event chooses.chip) bytes k step.0.chip) (puts_nothing step.0.port step.3 step.4).1 step.5;
             })))
 
     -- The event that is chosen is the most urgent one of those whose flags were set at the taking.

@@ -79,6 +79,6 @@ run_values f e rs v w c same run = record { glue = glue_values f v w c same run.
 
 -- A step that writes nothing but INTCON's GIE, flags, and what is neither written nor saved, leaves what a run has to give back.
 pub run_beneath : (f : Code) (e : ℕ) (rs : List Run) (c d : Chip) → 0 < f.l.level e → level_of_top f.l rs ≤ f.l.level e → d.regs.plain ≡ c.regs.plain → SameEnables c d → SameStack c d
-    → Beneath f.l f.Saved e rs c → Beneath f.l f.Saved e rs d
+    → Beneath f.t f.l e rs c → Beneath f.t f.l e rs d
 run_beneath f e rs c d real low plain enables stack beneath =
     beneath_moves f e rs c d real low enables stack (λ x address its most in_frame. ap (λ (g : ℕ → Byte). g address) plain) beneath

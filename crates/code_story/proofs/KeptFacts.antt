@@ -237,7 +237,7 @@ module _ (f : Code) where
 
   -- What a run has to give back stays over a step that leaves the enables, the return stack, and frames up to the run's level.
   pub beneath_moves : (e : ℕ) (st : List Run) (c d : Chip) → 0 < f.l.level e → level_of_top f.l st ≤ f.l.level e → SameEnables c d → SameStack c d → SameFrames f.l (f.l.level e) c d
-      → Beneath f.l f.Saved e st c → Beneath f.l f.Saved e st d
+      → Beneath f.t f.l e st c → Beneath f.t f.l e st d
   beneath_moves e st c d real low enables stack frames beneath = record {
     chip = beneath.chip;
     saved = (f.runs e real).saved_stays beneath.chip c d beneath.saved enables (λ address its. frames e address real (omega arith) its);

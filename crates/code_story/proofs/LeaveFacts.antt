@@ -121,7 +121,7 @@ module _ (f : Code) (e : ℕ) (st : List Run) (v : Values) (outer : Outer) (c : 
 
     -- What the interrupted run has to give back is as it was on `y`.
     beneath_again : (r : Run) (rs : List Run) → 0 < f.l.level r.event → level_of_top f.l rs < f.l.level r.event → length st ≡ suc (length rs) → level_of_top f.l st ≡ f.l.level r.event
-        → Beneath f.l f.Saved r.event rs y → Beneath f.l f.Saved r.event rs d
+        → Beneath f.t f.l r.event rs y → Beneath f.t f.l r.event rs d
     beneath_again r rs real lower one_more its_level beneath = record {
       chip = beneath.chip;
       saved = (f.runs r.event real).saved_stays beneath.chip y d beneath.saved enables_back (λ address in_frame. leaves.over.frames r.event address real (omega (arith, its_level)) in_frame);

@@ -6,6 +6,7 @@ pub mod Examples
 pub mod GlueFacts
 pub mod KeptFacts
 pub mod LeaveFacts
+pub mod RunLaws
 pub mod SimulatedLaws
 pub mod TakingFacts
 pub mod ToldFacts

@@ -47,7 +47,7 @@ at_most_one_more d n low = omega arith
 
 module _ (f : Code) where
   -- What is known of a chip that may be interrupted.
-  pub paused_usual : (st : List Run) (x : Chip) → Paused f.l f.Saved st x → Usual f.l x
+  pub paused_usual : (st : List Run) (x : Chip) → Paused f.t f.l st x → Usual f.l x
   paused_usual [] x paused = record {
     easy = record { whole = ap (existing Pclath) paused.page ∙ sym paused.page; page = λ alone. paused.page };
     bank = λ unsaved. paused.bank;
@@ -55,11 +55,11 @@ module _ (f : Code) where
   }
   paused_usual (r ∷ rs) x paused = paused.0.usual paused.1
 
-  pub paused_level : (st : List Run) (x : Chip) → Paused f.l f.Saved st x → AtLevel f.l (level_of_top f.l st) x
+  pub paused_level : (st : List Run) (x : Chip) → Paused f.t f.l st x → AtLevel f.l (level_of_top f.l st) x
   paused_level [] x paused = paused.heard
   paused_level (r ∷ rs) x paused = paused.0.heard
 
-  pub paused_low : (st : List Run) (x : Chip) → Paused f.l f.Saved st x → level_of_top f.l st ≡ 0 → Holds (Known 0) x × (x.regs.pclath ≡ zeros)
+  pub paused_low : (st : List Run) (x : Chip) → Paused f.t f.l st x → level_of_top f.l st ≡ 0 → Holds (Known 0) x × (x.regs.pclath ≡ zeros)
   paused_low [] x paused low = (paused.bank, paused.page)
   paused_low (r ∷ rs) x paused low = absurd (let real = paused.0.real in omega (arith, low, real))
 
@@ -77,12 +77,12 @@ module _ (f : Code) where
     void = void_moves f.l r.event r.rest c (with_outer outer c) (alone_others c (with_outer outer c) (arrival_alone outer c)) work.void;
   }
 
-  outer_beneath : (e : ℕ) (rs : List Run) (outer : Outer) (c : Chip) → 0 < f.l.level e → level_of_top f.l rs ≤ f.l.level e → Beneath f.l f.Saved e rs c → Beneath f.l f.Saved e rs (with_outer outer c)
+  outer_beneath : (e : ℕ) (rs : List Run) (outer : Outer) (c : Chip) → 0 < f.l.level e → level_of_top f.l rs ≤ f.l.level e → Beneath f.t f.l e rs c → Beneath f.t f.l e rs (with_outer outer c)
   outer_beneath e rs outer c real low beneath =
       run_beneath f e rs c (with_outer outer c) real low refl (record { peie = refl; t0ie = refl; inte = refl; pie1 = refl; pie2 = refl }) (record { stack = refl; top = refl; depth = refl }) beneath
 
-  pub working_paused : (r : Run) (rs : List Run) (outer : Outer) (c : Chip) → InWork f.l r c → f.l.is_locked r.event ≡ true → level_of_top f.l rs ≤ f.l.level r.event → Beneath f.l f.Saved r.event rs c
-      → Paused f.l f.Saved (r ∷ rs) (with_outer outer c)
+  pub working_paused : (r : Run) (rs : List Run) (outer : Outer) (c : Chip) → InWork f.l r c → f.l.is_locked r.event ≡ true → level_of_top f.l rs ≤ f.l.level r.event → Beneath f.t f.l r.event rs c
+      → Paused f.t f.l (r ∷ rs) (with_outer outer c)
   working_paused r rs outer c work locked low beneath = (outer_work r outer c work, locked, outer_beneath r.event rs outer c work.real low beneath)
 
   -- Where an event is above, the top run's lock makes its test.
@@ -92,7 +92,7 @@ module _ (f : Code) where
       let higher : f.l.level r.event < f.l.level above.0 = above_its_top f (r ∷ rs) above.0 above.2 in omega (arith, most, higher))
 
   module _ (st : List Run) (v : Values) (outer : Outer) (c : Chip) (tower : Tower f.t st) (past : Past f.p v c) (shows : f.l.states c.regs.plain ≡ v.state)
-      (paused : Paused f.l f.Saved st (with_outer outer c)) (top : c.top ≡ length st) (depth : c.depth ≤ length st)
+      (paused : Paused f.t f.l st (with_outer outer c)) (top : c.top ≡ length st) (depth : c.depth ≤ length st)
       (above : Above f.t (flag_at f.m (with_outer outer c).regs) (top_level f.t st)) where
     abbrev x : Chip
     x = with_outer outer c

@@ -58,7 +58,7 @@ over_voided f st x c over =
     same_level [] = refl
     same_level (r ∷ rs) = refl
 
-paused_voided : (f : Code) (st : List Run) (x : Chip) → Paused f.l f.Saved st x → Paused f.l f.Saved (voided st) x
+paused_voided : (f : Code) (st : List Run) (x : Chip) → Paused f.t f.l st x → Paused f.t f.l (voided st) x
 paused_voided f [] x paused = paused
 paused_voided f (r ∷ rs) x paused =
     let work = paused.0 in

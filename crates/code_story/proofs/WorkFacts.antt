@@ -169,7 +169,7 @@ module _ (f : Code) (r : Run) (rs : List Run) (v : Values) (outer : Outer) (c : 
     level_lock : (due : Bool) → AtLevel f.l (f.l.level e) (record off.chip { due = due })
     level_lock due = let h = work.work.heard in record { peie = h.peie; t0ie = h.t0ie; inte = h.inte; rbie = h.rbie; pie1 = h.pie1; pie2 = h.pie2 }
 
-    beneath_lock : (due : Bool) → Beneath f.l f.Saved e rs (record off.chip { due = due })
+    beneath_lock : (due : Bool) → Beneath f.t f.l e rs (record off.chip { due = due })
     beneath_lock due = run_beneath f e rs c (record off.chip { due = due }) real low refl
         (record { peie = refl; t0ie = refl; inte = refl; pie1 = refl; pie2 = refl }) (record { stack = refl; top = refl; depth = refl }) work.beneath
 

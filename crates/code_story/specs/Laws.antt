@@ -1,19 +1,24 @@
--- What the laws of `laws.rt` promise of code that is arranged.
+-- What the laws of `laws.rt` promise of code that is arranged, and of what its parts do.
 use Rattle.std.specs.Prelude.{◌≡◌, ℕ, ◌+◌, ◌<◌, ◌==◌, ◌↔◌, ◌⊎◌, Bool, true, false, ◌||◌, Some}
 use Rattle.frp_tree.specs.Tree.{ProgramTree}
 use Rattle.pic_regs.specs.Registers.{flag, enable, requested}
 use Rattle.pic_machine.specs.Chip.{Chip}
+use Rattle.pic_machine.specs.Run.{program_of}
+use Rattle.hex_file.specs.declared.images.Image.{Image}
 use Rattle.map_file.specs.declared.maps.MapEvent.{MapEvent}
 use Rattle.map_file.specs.declared.maps.Map.{Map}
 use Rattle.firmware_promises.specs.Urgent.{is_in_intcon}
 use Rattle.core_story.specs.Values.{item}
-use Rattle.core_story.specs.Interface.{AreSetUp}
+use Rattle.core_story.specs.Interface.{AreSetUp, Simulated}
+use Rattle.core_story.specs.Laws.{Maps}
 use Rattle.code_steps.specs.Between.{Others}
 use Rattle.firmware_parts.specs.Layout.{Layout, Part}
 use Rattle.firmware_parts.specs.Layout.Part.{Open, Commit}
 use Rattle.firmware_parts.specs.Contexts.{AtLevel}
 use Rattle.firmware_parts.specs.Runs.{Void}
 use Rattle.code_story.specs.Arranged.{IsPart, IsLevel, EnablesAgree, PlacesAgree, WritesAgree, WrittenBy, is_boot_part}
+use Rattle.code_story.specs.Code.{Code}
+use Rattle.code_story.specs.Relation.{Sim}
 
 -- With the enables of a level each event above it is heard; and with interrupts on, one is requested exactly where the flag of such an
 -- event is set.
@@ -51,3 +56,13 @@ abbrev pub LiesElsewhere : Map → Layout → Part → (place : ℕ) → Type 0
 LiesElsewhere m l part place =
     PlacesAgree m l → IsPart l part → is_window_part part ≡ false → l.inside part place ≡ true
     → (x : ℕ) (e : MapEvent) → item m.events x ≡ Some e → ((place == e.«open») ≡ false) × ((place == e.commit) ≡ false)
+
+-- The relation between the core and the chip that runs the code holds at power-on, is kept at each boundary, whatever comes from
+-- outside, and shows what is to be seen.
+abbrev pub IsSimulated : Code → Type 0
+IsSimulated f = Simulated f.p f.m f.t f.l.program (Sim f)
+
+-- An image has this code, and the map is the program's by it.
+pub record IsImageOf (f : Code) (image : Image) : Type 0 where
+  pub has : f.l.program ≡ program_of image
+  pub maps : Maps f.p image f.m

@@ -7,6 +7,7 @@ use Rattle.pic_regs.specs.Bytes.{zeros}
 use Rattle.pic_regs.specs.Registers.{flag}
 use Rattle.pic_machine.specs.declared.steps.PortWrite.{PortWrite}
 use Rattle.pic_machine.specs.Chip.{Chip}
+use Rattle.timed_core.specs.Timing.{Timing}
 use Rattle.timed_core.specs.Steps.{Run, Phase, Best}
 use Rattle.timed_core.specs.Steps.Phase.{Boots, Rests, Works, Owes, Chooses, Begins, Repeats, Nears, Copies, Leaves}
 use Rattle.core_story.specs.Values.{Values}
@@ -19,7 +20,7 @@ use Rattle.firmware_parts.specs.Layout.Part.{Boot, Taking, Start, Begin, Lock, C
 use Rattle.firmware_parts.specs.Contexts.{AtLevel}
 use Rattle.firmware_parts.specs.Runs.{Leads, Void, Clean, Reacts, AtClear, AtOn, AtOpen, AtCommit, AtReturn}
 use Rattle.firmware_parts.specs.Vector.{AtBootEnd, Chosen}
-use Rattle.code_story.specs.Code.{Code}
+use Rattle.code_story.specs.Code.{GivesBack, Code}
 
 -- The layout's level of the top run, 0 where there is none.
 abbrev pub level_of_top : Layout → List Run → ℕ
@@ -55,19 +56,19 @@ pub record Over (l : Layout) (st : List Run) (x c : Chip) : Type 0 where
   pub frames : SameFrames l (level_of_top l st) x c
 
 -- The run of an event interrupted a chip of which this is known, and has saved what that needs.
-pub record Interrupts (l : Layout) (Saved : ℕ → Chip → Chip → Type 0) (Paused : Chip → Type 0) (e : ℕ) (st : List Run) (c : Chip) : Type 0 where
+pub record Interrupts (t : Timing) (l : Layout) (Paused : Chip → Type 0) (e : ℕ) (st : List Run) (c : Chip) : Type 0 where
   pub chip : Chip
-  pub saved : Saved e chip c
+  pub saved : GivesBack t l e chip c
   pub over : Over l st chip c
   pub paused : Paused chip
 
 -- A chip that was interrupted with these runs under way: the top one was at work, or control rested.
-abbrev pub Paused : Layout → (Saved : ℕ → Chip → Chip → Type 0) → List Run → Chip → Type 0
-Paused l Saved [] x = AtReady l x
-Paused l Saved (r ∷ rs) x = InWork l r x × (l.is_locked r.event ≡ true) × Interrupts l Saved (Paused l Saved rs) r.event rs x
+abbrev pub Paused : Timing → Layout → List Run → Chip → Type 0
+Paused t l [] x = AtReady l x
+Paused t l (r ∷ rs) x = InWork l r x × (l.is_locked r.event ≡ true) × Interrupts t l (Paused t l rs) r.event rs x
 
-abbrev pub Beneath : Layout → (Saved : ℕ → Chip → Chip → Type 0) → ℕ → List Run → Chip → Type 0
-Beneath l Saved e st c = Interrupts l Saved (Paused l Saved st) e st c
+abbrev pub Beneath : Timing → Layout → ℕ → List Run → Chip → Type 0
+Beneath t l e st c = Interrupts t l (Paused t l st) e st c
 
 -- Past the boot: RBIE is clear, what is set up stands, the state is one.
 pub record Past (p : ProgramTree) (v : Values) (c : Chip) : Type 0 where
@@ -107,7 +108,7 @@ module _ (f : Code) where
     pub past : Past f.p v c
     pub shows : f.l.states c.regs.plain ≡ v.state
     pub work : InWork f.l r c
-    pub beneath : Beneath f.l f.Saved r.event rs c
+    pub beneath : Beneath f.t f.l r.event rs c
 
   -- What the run will find at its lock: void or not, it is told so where it tests; and where it isn't, it comes to the reaction.
   pub record Lives (r : Run) (c : Chip) : Type 0 where
@@ -128,14 +129,14 @@ module _ (f : Code) where
     pub set : flag (f.l.source event) c.regs ≡ true
     pub best : Best f.t g event
     pub above : level_of_top f.l st < f.l.level event
-    pub leads : Leads f.l (Start event) (AtClear f.p f.m f.l f.Saved event x) [] steps c
+    pub leads : Leads f.l (Start event) (AtClear f.p f.m f.l (GivesBack f.t f.l) event x) [] steps c
 
   pub record Choosing (j : ℕ) (g : ℕ → Bool) (st : List Run) (v : Values) (c : Chip) : Type 0 where
     pub glue : InGlue f.p v c
     pub shows : f.l.states c.regs.plain ≡ v.state
     pub chip : Chip
     pub over : Over f.l st chip c
-    pub paused : Paused f.l f.Saved st chip
+    pub paused : Paused f.t f.l st chip
     pub was_set : (x : ℕ) → g x ≡ true → flag_at f.m chip.regs x ≡ true
     pub way : Dispatching chip j st c ⊎ Entering chip j g st c
 
@@ -143,7 +144,7 @@ module _ (f : Code) where
   pub record InRun (e : ℕ) (rs : List Run) (v : Values) (c : Chip) : Type 0 where
     pub glue : InGlue f.p v c
     pub real : 0 < f.l.level e
-    pub beneath : Beneath f.l f.Saved e rs c
+    pub beneath : Beneath f.t f.l e rs c
 
   -- On the way to the step that turns interrupts on.
   pub record Beginning (e j : ℕ) (v : Values) (c : Chip) : Type 0 where
@@ -184,7 +185,7 @@ module _ (f : Code) where
     pub told : f.l.is_telling e ≡ true → is_told c ≡ true
     pub chip : Chip
     pub over : Over f.l st chip c
-    pub paused : Paused f.l f.Saved st chip
+    pub paused : Paused f.t f.l st chip
     pub leads : Leads f.l (Exit e) (AtReturn f.l chip) [] j c
 
   abbrev pub Sim : Phase → List Run → Values → Chip → Type 0
