@@ -1,4 +1,5 @@
 pub mod ArrangedFacts
+pub mod BeginFacts
 pub mod BootFacts
 pub mod ChipFacts
 pub mod ChoiceFacts
@@ -6,6 +7,7 @@ pub mod Examples
 pub mod GlueFacts
 pub mod KeptFacts
 pub mod LeaveFacts
+pub mod OpenFacts
 pub mod RunLaws
 pub mod SimulatedLaws
 pub mod TakingFacts

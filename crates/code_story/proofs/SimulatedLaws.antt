@@ -26,7 +26,9 @@ use Rattle.code_story.proofs.BootFacts.{boot_begins, boot_is_before, next_boots}
 use Rattle.code_story.proofs.TakingFacts.{next_rests, next_owes}
 use Rattle.code_story.proofs.WorkFacts.{next_works}
 use Rattle.code_story.proofs.ChoiceFacts.{next_chooses}
-use Rattle.code_story.proofs.WindowFacts.{next_begins, next_repeats, next_nears, next_copies}
+use Rattle.code_story.proofs.BeginFacts.{next_repeats}
+use Rattle.code_story.proofs.OpenFacts.{next_begins, next_nears}
+use Rattle.code_story.proofs.WindowFacts.{next_copies}
 use Rattle.code_story.proofs.LeaveFacts.{next_leaves}
 
 module _ (f : Code) where

@@ -1,4 +1,4 @@
--- A run with interrupts off: on the way to its work, to its open, through its window.
+-- The window of a run: its copies, and its commit.
 use Rattle.std.specs.Prelude.{ℕ, zero, suc, ◌%◌, ◌<◌, ◌≤◌, ◌==◌, ◌⊎◌, true, false, List, [], ◌∷◌, ◌++◌, length, Option, Some, None}
 use Rattle.std.specs.List.{cons_option}
 use Rattle.std.proofs.Common.{◌≡◌, refl, sym, ap, subst, ◌∙◌, arith, inl, inr, ne_eqb, eq-eqb}
@@ -41,7 +41,6 @@ use Rattle.code_story.proofs.ArrangedFacts.{Elsewhere, on_is_elsewhere, above_it
 use Rattle.code_story.proofs.KeptFacts.{untouched, past_stays, page_stays, reacts_stay, easy_same, usual_same}
 use Rattle.code_story.proofs.GlueFacts.{its_touches, shown_stays, run_stays, run_values, level_stays, run_beneath}
 use Rattle.code_story.proofs.ToldFacts.{NextFrom, Shows, told_by, shows_plainly, still_shows, listed_by, running_turn, puts_nothing, puts_last, by_off}
-
 -- A commit makes the runs beneath void, and changes nothing else of them.
 over_voided : (f : Code) (st : List Run) (x c : Chip) → Over f.l st x c → Over f.l (voided st) x c
 over_voided f st x c over =
@@ -85,184 +84,6 @@ module _ (f : Code) (r : Run) (rs : List Run) (v : Values) (outer : Outer) (c : 
 
   low : level_of_top f.l rs ≤ f.l.level e
   low = let lower : level_of_top f.l rs < f.l.level e = above_its_top f rs e tower.1 in omega (arith, lower)
-
-  -- A step that is plain, of one of the run's parts, which puts nothing.
-  module _ (ph next_phase : Phase) (part : Part) (is_part : IsPart f.l part) (other : is_window_part part ≡ false) (off : is_on ph ≡ false)
-      (goes : core.Step f.t (flag_at f.m x.regs) ph Stays (r ∷ rs) (at next_phase (r ∷ rs))) (done : Done)
-      (step : StillIn f.l.program (piece f.l part) x done) (rest : List PortWrite) (puts : [] ≡ cons_option done.port rest) where
-    run_goes_on : Sim f next_phase (r ∷ rs) v done.chip → NextFrom f ph (r ∷ rs) v (step_of outer c (running_turn f.l.program c done.chip done))
-    run_goes_on sim = record {
-      label = Stays;
-      phase = next_phase;
-      stack = r ∷ rs;
-      values = v;
-      goes = goes;
-      valued = ((puts_nothing done.port rest puts).0, refl);
-      told = told_by f ph (r ∷ rs) Stays outer c done.chip done (still_shows f part ph (r ∷ rs) Stays outer c done is_part other refl off step);
-      keeps = sim;
-    }
-
-  -- Interrupts are turned on, and the work begins.
-  module _ (ph : Phase) (past_boot : is_boot ph ≡ false) (off : is_on ph ≡ false) (goes : core.Step f.t (flag_at f.m x.regs) ph Turns (r ∷ rs) (at Works (fresh f.t e ∷ rs)))
-      (shows : f.l.states c.regs.plain ≡ v.state) (long : f.l.is_short e ≡ false) (heard : AtLevel f.l (f.l.level e) c) (ends : AtOn f.l e c) where
-    abbrev on : Done
-    on = did (turns true) x
-
-    on_is : own f.l.program x ≡ Some on
-    on_is = (f.runs e real).turns_on x long ends.there
-
-    at_work : on.chip.pc ≡ f.l.work e
-    at_work = ap next ends.there ∙ (f.runs e real).work_next long
-
-    works_there : Working f true false (fresh f.t e) rs v on.chip
-    works_there = record {
-      on_is = refl;
-      due_is = run.glue.none_due;
-      past = past_stays f Taking v c on.chip tt refl (untouched f.l Taking c on.chip refl refl refl) run.glue.past;
-      shows = shows;
-      work = record {
-        real = real;
-        long = long;
-        heard = record { peie = heard.peie; t0ie = heard.t0ie; inte = heard.inte; rbie = heard.rbie; pie1 = heard.pie1; pie2 = heard.pie2 };
-        easy = easy_same f.l c on.chip refl ends.easy;
-        usual = λ locked. usual_same f.l c on.chip refl refl refl (ends.usual locked);
-        void = (f.runs e real).void on.chip long at_work ends.bank;
-      };
-      beneath = run_beneath f e rs c on.chip real low refl (record { peie = refl; t0ie = refl; inte = refl; pie1 = refl; pie2 = refl }) (record { stack = refl; top = refl; depth = refl }) run.beneath;
-    }
-
-    lives_there : Lives f (fresh f.t e) on.chip
-    lives_there = record {
-      told = λ locked. ends.untold locked;
-      never_void = λ unlocked. refl;
-      clean = λ is_fresh. (f.t.body e, (f.runs e real).clean on.chip long at_work ends.bank (subst (IsState f.p) (sym shows) run.glue.past.typed));
-    }
-
-    run_turns : NextFrom f ph (r ∷ rs) v (boundary f.l.program outer c)
-    run_turns = by_off f ph (r ∷ rs) v outer c on run.glue.none_due run.glue.off on_is (record {
-      label = Turns;
-      phase = Works;
-      stack = fresh f.t e ∷ rs;
-      values = v;
-      goes = goes;
-      valued = (refl, refl);
-      told = told_by f ph (r ∷ rs) Turns outer c on.chip on (shows_plainly f ph (r ∷ rs) Turns outer c on.chip on refl (subst (Elsewhere f.l) (sym ends.there) (on_is_elsewhere f e real long))
-          (no_return_by f.l.program x on on_is refl) (λ source. refl) (λ is_it. absurd (both_ways (is_on ph) off is_it)) f.arranged.writes.intcon_listed);
-      keeps = (works_there, lives_there);
-    })
-
-  -- From the flag's clearing, and from the lock of void work, to there.
-  module _ (ph : ℕ → Phase) (past_boot : (j : ℕ) → is_boot (ph j) ≡ false) (off : (j : ℕ) → is_on (ph j) ≡ false)
-      (stays : (i j : ℕ) → i < j → core.Step f.t (flag_at f.m x.regs) (ph j) Stays (r ∷ rs) (at (ph i) (r ∷ rs)))
-      (turned : (j : ℕ) → core.Step f.t (flag_at f.m x.regs) (ph j) Turns (r ∷ rs) (at Works (fresh f.t e ∷ rs)))
-      (sim : (j : ℕ) (d : Chip) → InRun f e rs v d → Beginning f e j v d → Sim f (ph j) (r ∷ rs) v d) where
-    beginning : (j : ℕ) → f.l.states c.regs.plain ≡ v.state → f.l.is_short e ≡ false → AtLevel f.l (f.l.level e) c → Leads f.l (Begin e) (AtOn f.l e) [] j c
-        → NextFrom f (ph j) (r ∷ rs) v (boundary f.l.program outer c)
-    beginning zero shows long heard ends = run_turns (ph zero) (past_boot zero) (off zero) (turned zero) shows long heard ends.1
-    beginning (suc k) shows long heard (inl ends) = run_turns (ph (suc k)) (past_boot (suc k)) (off (suc k)) (turned (suc k)) shows long heard ends.1
-    beginning (suc k) shows long heard (inr goes) =
-        let step = goes x (arrival_alone outer c) in
-        by_off f (ph (suc k)) (r ∷ rs) v outer c step.0 run.glue.none_due run.glue.off step.1
-        (run_goes_on (ph (suc k)) (ph k) (Begin e) (real, long) refl (off (suc k)) (stays k (suc k) (omega arith)) step.0 step.2 step.3 step.4
-        (sim k step.0.chip (run_stays f (Begin e) (real, long) outer c step.0 step.2 e rs v refl refl (λ y its most. most) low run) (record {
-          shows = shown_stays f (Begin e) (real, long) outer c step.0 step.2 v refl shows;
-          long = long;
-          heard = level_stays f (Begin e) (real, long) outer c step.0 step.2 (f.l.level e) refl heard;
-          leads = subst (λ bytes. Leads f.l (Begin e) (AtOn f.l e) bytes k step.0.chip) (puts_nothing step.0.port step.3 step.4).1 step.5;
-        })))
-
-  -- The open.
-  module _ (ph : Phase) (past_boot : is_boot ph ≡ false) (off : is_on ph ≡ false) (goes : core.Step f.t (flag_at f.m x.regs) ph (Opens e) (r ∷ rs) (at (Copies f.t.copying) (r ∷ rs)))
-      (shows : f.l.states c.regs.plain ≡ v.state) (reacts : Reacts f.p f.m f.l e c.regs.plain) (ends : AtOpen f.l e c)
-      (done : Done) (step : StillIn f.l.program (piece f.l (Open e)) x done) (opened : Opened f.l e f.t.copying c x done) where
-    abbrev opening : Values
-    opening = record { state = v.state; next = reacts.reaction.state; left = reaction_puts f.p reacts.reaction.ports }
-
-    reacted : react f.p v.state [] (name_at f.m e) ≡ Some reacts.reaction
-    reacted = subst (λ s. react f.p s [] (name_at f.m e) ≡ Some reacts.reaction) shows reacts.defined
-
-    window_there : InWindow f e f.t.copying opening done.chip
-    window_there = record {
-      chip = c;
-      early = opened.early;
-      late = opened.late;
-      left = sym reacts.puts ∙ opened.puts;
-      next = sym reacts.next;
-      typed = f.arranged.states.reacts e v.state reacts.reaction real run.glue.past.typed reacted;
-      easy = page_stays f (Open e) real outer c done step refl ends.easy;
-      leads = opened.copies;
-    }
-
-    -- The place of the open is this event's alone.
-    alone : StandsAlone f.l (Open e) (f.l.opens e)
-    alone = f.arranged.places.opens e real
-
-    opens_it : (y : ℕ) → 0 < f.l.level y → (c.pc == f.l.opens y) ≡ (y == e)
-    opens_it y its = by (cases_eq y e)
-      where
-        inside : c.pc ≡ f.l.opens y → f.l.inside (Open e) (f.l.opens y) ≡ true
-        inside same = ap (f.l.inside (Open e)) (sym same) ∙ step.inside
-
-        its_number : Open e ≡ Open y → y ≡ e
-        its_number same = (cc)
-
-        by : (y ≡ e) ⊎ (y ≡ e → ⊥) → (c.pc == f.l.opens y) ≡ (y == e)
-        by (inl same) = eq-eqb c.pc (f.l.opens y) (ends.there ∙ ap f.l.opens (sym same)) ∙ sym (eq-eqb y e same)
-        by (inr differ) = ne_eqb c.pc (f.l.opens y) (λ same. differ (its_number ((f.arranged.places.opens y its).only (Open e) real (inside same)))) ∙ sym (ne_eqb y e differ)
-
-    commits_none : (y : ℕ) → 0 < f.l.level y → (c.pc == f.l.commits y) ≡ false
-    commits_none y its = ne_eqb c.pc (f.l.commits y) (λ same. clash ((f.arranged.places.commits y its).only (Open e) real (ap (f.l.inside (Open e)) (sym same) ∙ step.inside)))
-      where
-        clash : Open e ≡ Commit y → ⊥
-        clash same = (cc)
-
-    open_shows : Shows f.m f.l ph (r ∷ rs) (Opens e) outer c done.chip done
-    open_shows = record {
-      taking = refl;
-      returned = step.no_return;
-      opened = opens_it;
-      committed = commits_none;
-      flags = λ y its. still_flags f.l.program _ _ x done step (f.l.source y) ∙ sym (and-true (flag (f.l.source y) x.regs));
-      heard = λ is_it. absurd (both_ways (is_on ph) off is_it);
-      kept = λ boot. absurd (both_ways (is_boot ph) past_boot boot);
-      listed = listed_by f (Open e) done.wrote real step.wrote;
-    }
-
-    run_opens : NextFrom f ph (r ∷ rs) v (step_of outer c (running_turn f.l.program c done.chip done))
-    run_opens = record {
-      label = Opens e;
-      phase = Copies f.t.copying;
-      stack = r ∷ rs;
-      values = opening;
-      goes = goes;
-      valued = (ap put_by opened.port, reacts.reaction, reacted, refl);
-      told = told_by f ph (r ∷ rs) (Opens e) outer c done.chip done open_shows;
-      keeps = (run_values f e rs v opening done.chip refl (run_stays f (Open e) real outer c done step e rs v refl refl (λ y its most. most) low run), window_there);
-    }
-
-  opens_there : (ph : Phase) → is_boot ph ≡ false → is_on ph ≡ false → core.Step f.t (flag_at f.m x.regs) ph (Opens e) (r ∷ rs) (at (Copies f.t.copying) (r ∷ rs))
-      → f.l.states c.regs.plain ≡ v.state → Reacts f.p f.m f.l e c.regs.plain → AtOpen f.l e c → NextFrom f ph (r ∷ rs) v (boundary f.l.program outer c)
-  opens_there ph past_boot off goes shows reacts ends =
-      let step = (f.runs e real).window c ends x (arrival_alone outer c) in
-      by_off f ph (r ∷ rs) v outer c step.0 run.glue.none_due run.glue.off step.1 (run_opens ph past_boot off goes shows reacts ends step.0 step.2 step.3)
-
-  -- From the lock to the open.
-  nearing : (j : ℕ) → f.l.states c.regs.plain ≡ v.state → f.l.is_short e ≡ false → Reacts f.p f.m f.l e c.regs.plain → Leads f.l (Lock e) (AtOpen f.l e) [] j c
-      → NextFrom f (Nears j) (r ∷ rs) v (boundary f.l.program outer c)
-  nearing zero shows long reacts ends = opens_there (Nears zero) refl refl (refl, refl) shows reacts ends.1
-  nearing (suc k) shows long reacts (inl ends) = opens_there (Nears (suc k)) refl refl (refl, refl) shows reacts ends.1
-  nearing (suc k) shows long reacts (inr goes) =
-      let step = goes x (arrival_alone outer c) in
-      by_off f (Nears (suc k)) (r ∷ rs) v outer c step.0 run.glue.none_due run.glue.off step.1
-      (run_goes_on (Nears (suc k)) (Nears k) (Lock e) (real, long) refl refl (k, omega arith, refl) step.0 step.2 step.3 step.4 (
-        run_stays f (Lock e) (real, long) outer c step.0 step.2 e rs v refl refl (λ y its most. most) low run,
-        record {
-          shows = shown_stays f (Lock e) (real, long) outer c step.0 step.2 v refl shows;
-          long = long;
-          reacts = reacts_stay f e c step.0.chip (real, long) (its_touches f (Lock e) (real, long) outer c step.0 step.2) reacts;
-          leads = subst (λ bytes. Leads f.l (Lock e) (AtOpen f.l e) bytes k step.0.chip) (puts_nothing step.0.port step.3 step.4).1 step.5;
-        },
-      ))
 
   -- In the window.
   module _ (k : ℕ) (window : InWindow f e (suc k) v c) (done : Done) (step : StillIn f.l.program (piece f.l (Copying e)) x done) (rest : List PortWrite)
@@ -381,28 +202,6 @@ module _ (f : Code) (r : Run) (rs : List Run) (v : Values) (outer : Outer) (c : 
   copying (suc k) window (inr goes) =
       let step = goes x (arrival_alone outer c) in
       by_off f (Copies (suc k)) (r ∷ rs) v outer c step.0 run.glue.none_due run.glue.off step.1 (copies_on k window step.0 step.2 step.3 step.5 step.0.port refl step.4)
-
--- The phases.
-pub next_begins : (f : Code) (j : ℕ) (st : List Run) (v : Values) (outer : Outer) (c : Chip) → Shape f.t (Begins j) st → Sim f (Begins j) st v c → NextFrom f (Begins j) st v (boundary f.l.program outer c)
-next_begins f j [] v outer c shape sim = absurd sim
-next_begins f j (r ∷ rs) v outer c shape sim = by sim.1
-  where
-    by : Beginning f r.event j v c ⊎ ShortAtOpen f r.event v c → NextFrom f (Begins j) (r ∷ rs) v (boundary f.l.program outer c)
-    by (inl begins) = beginning f r rs v outer c shape.1 sim.0 Begins (λ i. refl) (λ i. refl) (λ i n less. (i, less, refl)) (λ i. refl) (λ i d run its. (run, inl its)) j
-        begins.shows begins.long begins.heard begins.leads
-    by (inr at_open) =
-        let short = f.arranged.levels.short r.event sim.0.real at_open.is_short in
-        opens_there f r rs v outer c shape.1 sim.0 (Begins j) refl refl (refl, short.0, highest f r.event short.1, refl) at_open.shows at_open.reacts at_open.at_open
-
-pub next_repeats : (f : Code) (j : ℕ) (st : List Run) (v : Values) (outer : Outer) (c : Chip) → Shape f.t (Repeats j) st → Sim f (Repeats j) st v c → NextFrom f (Repeats j) st v (boundary f.l.program outer c)
-next_repeats f j [] v outer c shape sim = absurd sim
-next_repeats f j (r ∷ rs) v outer c shape sim =
-    let begins = sim.1 in
-    beginning f r rs v outer c shape.1 sim.0 Repeats (λ i. refl) (λ i. refl) (λ i n less. (i, less, refl)) (λ i. refl) (λ i d run its. (run, its)) j begins.shows begins.long begins.heard begins.leads
-
-pub next_nears : (f : Code) (j : ℕ) (st : List Run) (v : Values) (outer : Outer) (c : Chip) → Shape f.t (Nears j) st → Sim f (Nears j) st v c → NextFrom f (Nears j) st v (boundary f.l.program outer c)
-next_nears f j [] v outer c shape sim = absurd sim
-next_nears f j (r ∷ rs) v outer c shape sim = let nears = sim.1 in nearing f r rs v outer c shape.1 sim.0 j nears.shows nears.long nears.reacts nears.leads
 
 pub next_copies : (f : Code) (j : ℕ) (st : List Run) (v : Values) (outer : Outer) (c : Chip) → Shape f.t (Copies j) st → Sim f (Copies j) st v c → NextFrom f (Copies j) st v (boundary f.l.program outer c)
 next_copies f j [] v outer c shape sim = absurd sim

@@ -25,7 +25,7 @@ use Rattle.code_steps.specs.declared.banks.Bank.TheVariants.{Known}
 use Rattle.firmware_parts.specs.Times.{times, dispatching, starting}
 use Rattle.firmware_parts.specs.Layout.{Layout, Part}
 use Rattle.firmware_parts.specs.Layout.Part.{Boot, Taking, Start, Begin, Work, Lock, Open, Copying, Commit, Exit}
-use Rattle.code_story.specs.Arranged.{IsEventOf, LevelsAgree, IsLevel, is_heard_by, EnablesAgree, PlacesAgree, Spares, is_boot_part, leaves_states, leaves_enables, leaves_told, leaves_page, WritesAgree, StatesAgree, Arranged}
+use Rattle.code_story.specs.Arranged.{StandsAlone, IsEventOf, LevelsAgree, IsLevel, is_heard_by, EnablesAgree, PlacesAgree, Spares, is_boot_part, leaves_states, leaves_enables, leaves_told, leaves_page, WritesAgree, StatesAgree, Arranged}
 use Rattle.code_story.proofs.KeptFacts.{unwritten}
 
 -- A counter of Low that is shown on port B; Mid and High change nothing.
@@ -40,28 +40,43 @@ p = record {
   outputs = output (codes "PORTB") (Name (codes "n")) ∷ [];
 }
 
--- Each part has one place, by its kind and event; the ready address and the others are behind.
+-- Each part has one place, by its kind, from 0 to 9, and its event.
+abbrev kind_of : Part → ℕ
+kind_of Boot = 0
+kind_of Taking = 1
+kind_of (Start e) = 2
+kind_of (Begin e) = 3
+kind_of (Work e) = 4
+kind_of (Lock e) = 5
+kind_of (Open e) = 6
+kind_of (Copying e) = 7
+kind_of (Commit e) = 8
+kind_of (Exit e) = 9
+
+abbrev event_of : Part → ℕ
+event_of Boot = 0
+event_of Taking = 0
+event_of (Start e) = e
+event_of (Begin e) = e
+event_of (Work e) = e
+event_of (Lock e) = e
+event_of (Open e) = e
+event_of (Copying e) = e
+event_of (Commit e) = e
+event_of (Exit e) = e
+
 abbrev place_of : Part → ℕ
-place_of Boot = 0
-place_of Taking = 1
-place_of (Start e) = 10 * e + 12
-place_of (Begin e) = 10 * e + 13
-place_of (Work e) = 10 * e + 14
-place_of (Lock e) = 10 * e + 15
-place_of (Open e) = 10 * e + 16
-place_of (Copying e) = 10 * e + 17
-place_of (Commit e) = 10 * e + 18
-place_of (Exit e) = 10 * e + 19
+place_of part = 10 * event_of part + kind_of part
 
 abbrev m : Map
 m = record {
-  events = record { name = low; source = T0; priority = 1; «open» = 16; commit = 18 }
-      ∷ record { name = tick; source = Int; priority = 4; «open» = 26; commit = 28 }
-      ∷ record { name = go; source = Tmr1; priority = 9; «open» = 36; commit = 38 } ∷ [];
+  events = record { name = low; source = T0; priority = 1; «open» = 6; commit = 8 }
+      ∷ record { name = tick; source = Int; priority = 4; «open» = 16; commit = 18 }
+      ∷ record { name = go; source = Tmr1; priority = 9; «open» = 26; commit = 28 } ∷ [];
   states = record { name = codes "n"; ty = U8; low = 0x20; high = 0x20 } ∷ [];
   outputs = 1 ∷ [];
   samples = [];
-  ready = 3;
+  ready = 1000;
   regs = record { from = 0; to = 0x1FF } ∷ [];
   depth = 3;
   ram = 10;
@@ -121,13 +136,13 @@ layout short = record {
   is_locked = λ e. nat_lt e 2;
   is_telling = λ e. nat_lt 0 e;
   enables = enables_at;
-  ready = 3;
-  boot_end = 2;
-  entry = λ e. 100 + e;
-  clear = λ e. 10 * e + 110;
-  on = λ e. 10 * e + 111;
+  ready = 1000;
+  boot_end = 1001;
+  entry = λ e. place_of (Start e);
+  clear = λ e. 10 * e + 2000;
+  on = λ e. 10 * e + 2001;
   work = λ e. place_of (Work e);
-  lock = λ e. 10 * e + 112;
+  lock = λ e. 10 * e + 2002;
   opens = λ e. place_of (Open e);
   commits = λ e. place_of (Commit e);
   bank = λ e. Known 0;
@@ -244,19 +259,21 @@ module _ (short : Bool) where
   pick _ e = Exit e
 
   abbrev part_at : ℕ → Part
-  part_at place = pick (place % 10) (place / 10 - 1)
+  part_at place = pick (place % 10) (place / 10)
+
+  kind_below : (part : Part) → kind_of part < 10
+  kind_below Boot = omega arith
+  kind_below _ = omega arith
+
+  picked : (part : Part) → pick (kind_of part) (event_of part) ≡ part
+  picked Boot = refl
+  picked _ = refl
 
   back : (part : Part) → part_at (place_of part) ≡ part
-  back Boot = refl
-  back Taking = refl
-  back (Start e) = ap₂ pick (let kind : (10 * e + 12) % 10 ≡ 2 = omega arith in kind) (let its : (10 * e + 12) / 10 - 1 ≡ e = omega arith in its)
-  back (Begin e) = ap₂ pick (let kind : (10 * e + 13) % 10 ≡ 3 = omega arith in kind) (let its : (10 * e + 13) / 10 - 1 ≡ e = omega arith in its)
-  back (Work e) = ap₂ pick (let kind : (10 * e + 14) % 10 ≡ 4 = omega arith in kind) (let its : (10 * e + 14) / 10 - 1 ≡ e = omega arith in its)
-  back (Lock e) = ap₂ pick (let kind : (10 * e + 15) % 10 ≡ 5 = omega arith in kind) (let its : (10 * e + 15) / 10 - 1 ≡ e = omega arith in its)
-  back (Open e) = ap₂ pick (let kind : (10 * e + 16) % 10 ≡ 6 = omega arith in kind) (let its : (10 * e + 16) / 10 - 1 ≡ e = omega arith in its)
-  back (Copying e) = ap₂ pick (let kind : (10 * e + 17) % 10 ≡ 7 = omega arith in kind) (let its : (10 * e + 17) / 10 - 1 ≡ e = omega arith in its)
-  back (Commit e) = ap₂ pick (let kind : (10 * e + 18) % 10 ≡ 8 = omega arith in kind) (let its : (10 * e + 18) / 10 - 1 ≡ e = omega arith in its)
-  back (Exit e) = ap₂ pick (let kind : (10 * e + 19) % 10 ≡ 9 = omega arith in kind) (let its : (10 * e + 19) / 10 - 1 ≡ e = omega arith in its)
+  back part =
+      let low = kind_below part in
+      let kind : place_of part % 10 ≡ kind_of part = omega (arith, low) in
+      let its : place_of part / 10 ≡ event_of part = omega (arith, low) in ap₂ pick kind its ∙ picked part
 
   its_part : (part other : Part) → (place_of part == place_of other) ≡ true → other ≡ part
   its_part part other inside = sym (back other) ∙ ap part_at (sym (eqb-true (place_of part) (place_of other) inside)) ∙ back part
@@ -265,28 +282,24 @@ module _ (short : Bool) where
   places = record {
     events = events;
     ready = refl;
-    opens = λ x real. record {
-      only = λ other is_part inside. its_part (Open x) other inside;
-      not_ready = λ same. omega (arith, same);
-      not_boot_end = λ same. omega (arith, same);
-      not_clear = λ e its same. omega (arith, same);
-      not_on = λ e its long same. omega (arith, same);
-      not_lock = λ e its long same. omega (arith, same);
-      no_return = refl;
-    };
-    commits = λ x real. record {
-      only = λ other is_part inside. its_part (Commit x) other inside;
-      not_ready = λ same. omega (arith, same);
-      not_boot_end = λ same. omega (arith, same);
-      not_clear = λ e its same. omega (arith, same);
-      not_on = λ e its long same. omega (arith, same);
-      not_lock = λ e its long same. omega (arith, same);
-      no_return = refl;
-    };
+    opens = λ x real. alone (Open x) (omega arith) (omega arith);
+    commits = λ x real. alone (Commit x) (omega arith) (omega arith);
     boot_misses_ready = refl;
     boot_end_is_before = λ same. omega (arith, same);
   }
     where
+      -- A place whose last digit is more than 2 is no other one.
+      alone : (part : Part) → 2 < kind_of part → kind_of part < 10 → StandsAlone (layout short) part (place_of part)
+      alone part high low = record {
+        only = λ other is_part inside. its_part part other inside;
+        not_ready = λ same. omega (arith, high, low, same);
+        not_boot_end = λ same. omega (arith, high, low, same);
+        not_clear = λ e its same. omega (arith, high, low, same);
+        not_on = λ e its long same. omega (arith, high, low, same);
+        not_lock = λ e its long same. omega (arith, high, low, same);
+        no_return = refl;
+      }
+
       its_event : (x : ℕ) (d e : MapEvent) → Some d ≡ Some e → IsEventOf (layout short) x d → IsEventOf (layout short) x e
       its_event x d e found of_event = subst (IsEventOf (layout short) x) (let same : d ≡ e = cc in same) of_event
 
