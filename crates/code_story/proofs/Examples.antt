@@ -1,2 +1,2 @@
--- An arrangement of three events on three levels, so that what is assumed of arrangements has an instance; and sides of it that have none.
+-- An arrangement of three events on three levels: what is assumed of arrangements can be met.
 pub mod ThreeLevels

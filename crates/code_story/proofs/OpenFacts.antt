@@ -1,14 +1,10 @@
 -- The open of a run, and the way to it from the lock.
-use Rattle.std.specs.Prelude.{ℕ, zero, suc, ◌%◌, ◌<◌, ◌≤◌, ◌==◌, ◌⊎◌, true, false, List, [], ◌∷◌, ◌++◌, length, Option, Some, None}
-use Rattle.std.specs.List.{cons_option}
+use Rattle.std.specs.Prelude.{ℕ, zero, suc, ◌<◌, ◌≤◌, ◌==◌, ◌⊎◌, true, false, List, [], ◌∷◌, Some}
 use Rattle.std.proofs.Common.{◌≡◌, refl, sym, ap, subst, ◌∙◌, arith, inl, inr, ne_eqb, eq-eqb}
 use Rattle.std.proofs.Math.Bool.{and-true}
 use Rattle.std.proofs.lemmas.Bool.{both_ways, cases_eq}
-use Rattle.std.proofs.lemmas.List.{length-map}
 use Rattle.efrp_meaning.specs.Meaning.{react}
-use Rattle.efrp_meaning.specs.States.{IsState}
 use Rattle.pic_regs.specs.Registers.{flag}
-use Rattle.pic_machine.specs.declared.steps.PortWrite.{PortWrite}
 use Rattle.pic_machine.specs.Chip.{Chip}
 use Rattle.pic_machine.specs.Results.{Done}
 use Rattle.pic_machine.specs.Boundary.{Outer, boundary}
@@ -23,25 +19,21 @@ use Rattle.timed_core.specs.Promises.{is_boot}
 use Rattle.timed_core.specs.Shape.{Shape, Tower}
 use Rattle.core_story.specs.Values.{Values, name_at}
 use Rattle.core_story.specs.Interface.{flag_at}
-use Rattle.code_steps.specs.Steps.{own, next}
 use Rattle.code_steps.proofs.BetweenLaws.{arrival_alone}
-use Rattle.glue_steps.specs.Lines.{did}
 use Rattle.glue_steps.specs.Laws.{StillIn}
 use Rattle.glue_steps.proofs.StillLaws.{still_flags}
-use Rattle.firmware_parts.specs.Layout.{Part, piece}
-use Rattle.firmware_parts.specs.Layout.Part.{Taking, Begin, Lock, Open, Copying, Commit}
-use Rattle.firmware_parts.specs.Contexts.{AtLevel}
-use Rattle.firmware_parts.specs.Runs.{Leads, AtOn, AtOpen, AtCommit, Opened, Committed, Reacts, turns}
-use Rattle.code_story.specs.Arranged.{IsPart, StandsAlone}
+use Rattle.firmware_parts.specs.Layout.{piece}
+use Rattle.firmware_parts.specs.Layout.Part.{Lock, Open, Commit}
+use Rattle.firmware_parts.specs.Runs.{Leads, AtOpen, Opened, Reacts}
+use Rattle.code_story.specs.Arranged.{StandsAlone}
 use Rattle.code_story.specs.Code.{Code}
-use Rattle.code_story.specs.Laws.{is_window_part}
-use Rattle.code_story.specs.Relation.{level_of_top, Over, Paused, Working, Lives, InRun, Beginning, ShortAtOpen, InWindow, Leaving, Sim}
-use Rattle.code_story.proofs.ChipFacts.{no_return_by}
-use Rattle.code_story.proofs.ArrangedFacts.{Elsewhere, on_is_elsewhere, above_its_top, highest}
-use Rattle.code_story.proofs.KeptFacts.{untouched, past_stays, page_stays, reacts_stay, easy_same, usual_same}
-use Rattle.code_story.proofs.GlueFacts.{its_touches, shown_stays, run_stays, run_values, level_stays, run_beneath}
-use Rattle.code_story.proofs.ToldFacts.{NextFrom, Shows, told_by, shows_plainly, still_shows, listed_by, running_turn, puts_nothing, puts_last, by_off}
+use Rattle.code_story.specs.Relation.{level_of_top, InRun, Beginning, ShortAtOpen, InWindow, Sim}
+use Rattle.code_story.proofs.ArrangedFacts.{above_its_top, highest}
+use Rattle.code_story.proofs.KeptFacts.{page_stays, reacts_stay}
+use Rattle.code_story.proofs.GlueFacts.{its_touches, shown_stays, run_stays, run_values}
+use Rattle.code_story.proofs.ToldFacts.{NextFrom, Shows, told_by, listed_by, running_turn, puts_nothing, by_off}
 use Rattle.code_story.proofs.BeginFacts.{run_goes_on, beginning}
+
 module _ (f : Code) (r : Run) (rs : List Run) (v : Values) (outer : Outer) (c : Chip) (tower : Tower f.t (r ∷ rs)) (run : InRun f r.event rs v c) where
   abbrev x : Chip
   x = with_outer outer c

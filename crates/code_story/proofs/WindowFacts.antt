@@ -1,11 +1,10 @@
 -- The window of a run: its copies, and its commit.
-use Rattle.std.specs.Prelude.{ℕ, zero, suc, ◌%◌, ◌<◌, ◌≤◌, ◌==◌, ◌⊎◌, true, false, List, [], ◌∷◌, ◌++◌, length, Option, Some, None}
+use Rattle.std.specs.Prelude.{ℕ, zero, suc, ◌%◌, ◌<◌, ◌≤◌, ◌==◌, ◌⊎◌, false, List, [], ◌∷◌, ◌++◌, length, Option, Some, None}
 use Rattle.std.specs.List.{cons_option}
 use Rattle.std.proofs.Common.{◌≡◌, refl, sym, ap, subst, ◌∙◌, arith, inl, inr, ne_eqb, eq-eqb}
 use Rattle.std.proofs.Math.Bool.{and-true}
 use Rattle.std.proofs.lemmas.Bool.{both_ways, cases_eq}
 use Rattle.std.proofs.lemmas.List.{length-map}
-use Rattle.efrp_meaning.specs.Meaning.{react}
 use Rattle.efrp_meaning.specs.States.{IsState}
 use Rattle.pic_regs.specs.Registers.{flag}
 use Rattle.pic_machine.specs.declared.steps.PortWrite.{PortWrite}
@@ -14,33 +13,25 @@ use Rattle.pic_machine.specs.Results.{Done}
 use Rattle.pic_machine.specs.Boundary.{Outer, boundary}
 use Rattle.pic_machine.proofs.TurnLaws.{with_outer, step_of}
 use Rattle.firmware_promises.specs.Counts.{put_by}
-use Rattle.firmware_promises.specs.Follows.{reaction_puts}
-use Rattle.timed_core.specs.Steps.{Run, Phase, Label, at, fresh, voided, is_on}
-use Rattle.timed_core.specs.Steps as core
-use Rattle.timed_core.specs.Steps.Phase.{Works, Begins, Repeats, Nears, Copies, Leaves}
-use Rattle.timed_core.specs.Steps.Label.{Stays, Puts, Turns, Opens, Commits}
-use Rattle.timed_core.specs.Promises.{is_boot}
+use Rattle.timed_core.specs.Steps.{Run, voided}
+use Rattle.timed_core.specs.Steps.Phase.{Copies, Leaves}
+use Rattle.timed_core.specs.Steps.Label.{Stays, Puts, Commits}
 use Rattle.timed_core.specs.Shape.{Shape, Tower}
-use Rattle.core_story.specs.Values.{Values, name_at}
-use Rattle.core_story.specs.Interface.{flag_at}
-use Rattle.code_steps.specs.Steps.{own, next}
+use Rattle.core_story.specs.Values.{Values}
+use Rattle.code_steps.specs.Steps.{next}
 use Rattle.code_steps.proofs.BetweenLaws.{arrival_alone}
-use Rattle.glue_steps.specs.Lines.{did}
 use Rattle.glue_steps.specs.Laws.{StillIn}
 use Rattle.glue_steps.proofs.StillLaws.{still_flags}
-use Rattle.firmware_parts.specs.Layout.{Part, piece}
-use Rattle.firmware_parts.specs.Layout.Part.{Taking, Begin, Lock, Open, Copying, Commit}
-use Rattle.firmware_parts.specs.Contexts.{AtLevel}
-use Rattle.firmware_parts.specs.Runs.{Leads, AtOn, AtOpen, AtCommit, Opened, Committed, Reacts, turns}
-use Rattle.code_story.specs.Arranged.{IsPart, StandsAlone}
+use Rattle.firmware_parts.specs.Layout.{piece}
+use Rattle.firmware_parts.specs.Layout.Part.{Open, Copying, Commit}
+use Rattle.firmware_parts.specs.Runs.{Leads, AtCommit, Committed}
 use Rattle.code_story.specs.Code.{Code}
-use Rattle.code_story.specs.Laws.{is_window_part}
-use Rattle.code_story.specs.Relation.{level_of_top, Over, Paused, Working, Lives, InRun, Beginning, ShortAtOpen, InWindow, Leaving, Sim}
-use Rattle.code_story.proofs.ChipFacts.{no_return_by}
-use Rattle.code_story.proofs.ArrangedFacts.{Elsewhere, on_is_elsewhere, above_its_top, highest}
-use Rattle.code_story.proofs.KeptFacts.{untouched, past_stays, page_stays, reacts_stay, easy_same, usual_same}
-use Rattle.code_story.proofs.GlueFacts.{its_touches, shown_stays, run_stays, run_values, level_stays, run_beneath}
-use Rattle.code_story.proofs.ToldFacts.{NextFrom, Shows, told_by, shows_plainly, still_shows, listed_by, running_turn, puts_nothing, puts_last, by_off}
+use Rattle.code_story.specs.Relation.{level_of_top, Over, Paused, InRun, InWindow, Leaving, Sim}
+use Rattle.code_story.proofs.ArrangedFacts.{above_its_top}
+use Rattle.code_story.proofs.KeptFacts.{page_stays}
+use Rattle.code_story.proofs.GlueFacts.{run_stays, run_values}
+use Rattle.code_story.proofs.ToldFacts.{NextFrom, Shows, told_by, still_shows, listed_by, running_turn, puts_last, by_off}
+
 -- A commit makes the runs beneath void, and changes nothing else of them.
 over_voided : (f : Code) (st : List Run) (x c : Chip) → Over f.l st x c → Over f.l (voided st) x c
 over_voided f st x c over =
