@@ -1,0 +1,7 @@
+mod ClauseFacts
+mod CostFacts
+mod FewFacts
+mod ReadFacts
+mod SumFacts
+mod TotalFacts
+mod TypedFacts

@@ -1,0 +1,4 @@
+pub mod Bounded
+pub mod Costing
+pub mod Sized
+pub mod Weighing
