@@ -1,0 +1,11 @@
+pub mod CellFacts
+pub mod EventFacts
+pub mod FrameLaws
+pub mod ListedFacts
+pub mod MapLaws
+pub mod NameFacts
+pub mod PortFacts
+pub mod RangeFacts
+pub mod RowFacts
+pub mod StateFacts
+pub mod WrittenFacts
