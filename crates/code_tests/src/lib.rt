@@ -1,6 +1,7 @@
-//! Tests of `byte_ops`, `bank_alloc`, `code_items`, `page_layout`, `code_acts`, `glue_steps`, `op_templates` and `product_templates` by their public
-//! calls: operations on bytes, places for bytes, marks and jumps that are raised, code that fills program memory, code on four pages
-//! that the simulator runs, a sum over three banks, bytes that glue moves, and a template of each kind.
+//! Tests of `byte_ops`, `bank_alloc`, `code_items`, `page_layout`, `code_acts`, `glue_steps`, `op_templates`, `product_templates`,
+//! `op_code` and `event_code` by their public calls: operations on bytes, places for bytes, marks and jumps that are raised, code that
+//! fills program memory, code on four pages that the simulator runs, a sum over three banks, bytes that glue moves, a template and the
+//! code of each kind, and the work of an event.
 #![tactic(auto)]
 
 #[cfg(test)]
@@ -9,6 +10,8 @@ mod act_tests;
 mod byte_tests;
 #[cfg(test)]
 mod code_tests;
+#[cfg(test)]
+mod event_tests;
 #[cfg(test)]
 mod glue_tests;
 #[cfg(test)]

@@ -32,7 +32,7 @@ const B: Pair = Pair { low: 5, high: 290 };
 const C: u16 = 90;
 
 // All banked bytes are cells.
-fn places() -> Option<Places>
+pub(crate) fn places() -> Option<Places>
     ensures { IfSome result (λ places. bytes_of places.need ≡ 352) }
 {
     let need = Needs {
@@ -55,7 +55,7 @@ fn coded(alloc: Global, op: &Op, places: &Places, bank: Bank) -> Result<Code, Al
 }
 
 // The chip with these cells, about to run code of fewer than 1,000 items at its first address.
-fn powered(alloc: Global, code: &Code, cells: &[u8; 352]) -> Option<Chip>
+pub(crate) fn powered(alloc: Global, code: &Code, cells: &[u8; 352]) -> Option<Chip>
     requires fit { AllByRecursion ItemFits code.now.items }
     requires once { OnceEach code.now.items }
 {
@@ -81,7 +81,7 @@ fn powered(alloc: Global, code: &Code, cells: &[u8; 352]) -> Option<Chip>
 }
 
 // Runs the code to its end, in at most as many steps as it has items.
-fn run_code(chip: &mut Chip, code: &Code) {
+pub(crate) fn run_code(chip: &mut Chip, code: &Code) {
     for _ in 0..code.items.len() {
         if usize::from(chip.pc()) < code.items.len() {
             let _ = chip.step(0x000, false);
