@@ -1,10 +1,11 @@
 -- What operations mean one after the other, as they do it: each leads from bytes to bytes, since a cell is written once.
 use Rattle.std.specs.List.{AllByRecursion, flat_map}
-use Rattle.std.proofs.Common.{◌≡◌, ℕ, ◌+◌, ◌<◌, ◌≤◌, ◌==◌, ◌||◌, Bool, true, false, List, [], ◌∷◌, ◌++◌, length, refl, sym, subst, ◌∙◌, arith, inl, inr}
+use Rattle.std.proofs.Common.{◌≡◌, ℕ, ◌+◌, ◌<◌, ◌≤◌, ◌==◌, ◌||◌, Bool, true, false, List, [], ◌∷◌, length, refl, sym, subst, ◌∙◌, arith, inl, inr}
 use Rattle.std.proofs.lemmas.Bool.{cases_lt, eqb-true}
 use Rattle.byte_ops.specs.declared.operations.Op.{Op}
 use Rattle.byte_ops.specs.Cells.{AreIn, AreNot}
 use Rattle.byte_ops.specs.Meaning.{read_by, written_by}
+use Rattle.event_needs.proofs.ListLaws.{all-append}
 use Rattle.expr_lower.specs.Running.{AreNext, CanRun, DoAll, GiveOut, HoldBytes}
 use Rattle.expr_lower.proofs.OrderLaws.{ends-after}
 use Rattle.op_code.specs.Operations.{MeansInOrder, cells_of_op, is_one_of}
@@ -52,10 +53,6 @@ pub all-weaker : {A : Type 0} (P Q : A → Type 0) (xs : List A) → ((x : A) �
 all-weaker P Q [] weaker all = tt
 all-weaker P Q (x ∷ xs) weaker all = (weaker x all.0, all-weaker P Q xs weaker all.1)
 
-all-joined : (P : ℕ → Type 0) (xs ys : List ℕ) → AllByRecursion P xs → AllByRecursion P ys → AllByRecursion P (xs ++ ys)
-all-joined P [] ys first second = second
-all-joined P (x ∷ xs) ys first second = (first.0, all-joined P xs ys first.1 second)
-
 -- Cells that operations write lie between the first that is given out and the next; all of their cells are among so many.
 abbrev pub Lie : ℕ → ℕ → ℕ → Type 0
 Lie low next cell = (low ≤ cell) × (cell < next)
@@ -68,13 +65,13 @@ pub written-lie : (low first : ℕ) (ops : List Op) (next : ℕ) → low ≤ fir
 written-lie low first [] next from order = tt
 written-lie low first (op ∷ ops) next from order =
     let behind = first + length (written_by op) in
-    all-joined (Lie low next) (written_by op) (flat_map written_by ops)
+    all-append (Lie low next) (written_by op) (flat_map written_by ops)
     (next-lie low first next (written_by op) from order.1 (ends-after behind ops next order.2))
     (written-lie low behind ops next (omega arith) order.2)
 
 pub cells-lie : (count : ℕ) (ops : List Op) → AllByRecursion (CanRun count) ops → AreIn count (flat_map cells_of_op ops)
 cells-lie count [] runs = tt
 cells-lie count (op ∷ ops) runs =
-    all-joined (λ cell. cell < count) (cells_of_op op) (flat_map cells_of_op ops)
-    (all-joined (λ cell. cell < count) (read_by op) (written_by op) runs.0.read_in runs.0.written_in)
+    all-append (λ cell. cell < count) (cells_of_op op) (flat_map cells_of_op ops)
+    (all-append (λ cell. cell < count) (read_by op) (written_by op) runs.0.read_in runs.0.written_in)
     (cells-lie count ops runs.1)

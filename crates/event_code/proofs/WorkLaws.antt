@@ -16,10 +16,9 @@ use Rattle.pic_machine.specs.Exec.{field}
 use Rattle.pic_machine.specs.Results.{Done}
 use Rattle.map_file.specs.declared.maps.Map.{Map}
 use Rattle.byte_ops.specs.declared.operations.Op.{Op}
-use Rattle.byte_ops.specs.Cells.{AreIn}
 use Rattle.byte_ops.specs.Meaning.{read_by, written_by}
 use Rattle.expr_lower.specs.Running.{CanRun, DoAll, HoldBytes}
-use Rattle.expr_lower.proofs.OrderLaws.{ends-after}
+use Rattle.expr_lower.proofs.OrderLaws.{ends-after, in-more}
 use Rattle.bank_alloc.specs.declared.needs.Needs.{Needs}
 use Rattle.bank_alloc.specs.Addresses.{address_of, is_general}
 use Rattle.bank_alloc.specs.Needs.{bytes_of}
@@ -67,14 +66,11 @@ map_reads_states p need m c fits placed same =
     ap (λ ss. states_in (record m { states = ss }) c) same ∙ numbers-there need fits c.regs 0 p.decls (omega (arith, placed))
 
 -- Operations on cells that are placed.
-more-in : (a b : ℕ) → a ≤ b → (cells : List ℕ) → AreIn a cells → AreIn b cells
-more-in a b more cells all = all-weaker (λ cell. cell < a) (λ cell. cell < b) cells (λ cell below. omega (arith, below, more)) all
-
 more-run : (a b : ℕ) → a ≤ b → (op : Op) → CanRun a op → CanRun b op
 more-run a b more op runs = record {
   kind = runs.kind;
-  written_in = more-in a b more (written_by op) runs.written_in;
-  read_in = more-in a b more (read_by op) runs.read_in;
+  written_in = in-more a b (written_by op) more runs.written_in;
+  read_in = in-more a b (read_by op) more runs.read_in;
   apart = runs.apart;
   differ = runs.differ;
 }
