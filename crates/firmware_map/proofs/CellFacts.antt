@@ -1,7 +1,7 @@
 -- What passes a test below a bound, and how often.
-use Rattle.std.proofs.Common.{◌≡◌, ℕ, zero, suc, ◌+◌, ◌<◌, ◌≤◌, ◌||◌, ◌&&◌, Bool, true, false, inl, inr, ap, sym, subst, ◌∙◌, refl, arith, add-one}
+use Rattle.std.proofs.Common.{◌≡◌, ℕ, zero, suc, ◌+◌, ◌<◌, ◌≤◌, ◌||◌, ◌&&◌, Bool, true, false, inl, inr, ap, sym, ◌∙◌, refl, arith, add-one}
 use Rattle.std.specs.Prelude.{◌==◌, nat_lt, not}
-use Rattle.std.proofs.lemmas.Bool.{and_from, and_parts, and_right, both_ways, cases_Bool, cases_eq, eqb-true, false_from_ne_true, lt-ltb, ne_eqb, not_from_false, or_cases, or_from, or_left, or_right}
+use Rattle.std.proofs.lemmas.Bool.{and_parts, both_ways, cases_eq, false_from_ne_true, lt-ltb, ne_eqb, or_cases, or_left, or_right}
 use Rattle.pic_regs.specs.Bytes.{one_if}
 use Rattle.firmware_promises.specs.Firmware.{count_below}
 use Rattle.firmware_map.specs.Written.{some_below}

@@ -1,11 +1,11 @@
 -- The frame of a run lies in the bytes of its level, or where a taking saves.
-use Rattle.std.proofs.Common.{◌≡◌, ℕ, ◌<◌, ◌≤◌, ◌&&◌, Bool, true, false, if◌then◌else◌, Option, Some, None, inl, inr, ap, sym, subst, refl, arith, lit<}
+use Rattle.std.proofs.Common.{ℕ, ◌<◌, ◌≤◌, ◌&&◌, Bool, true, false, if◌then◌else◌, inl, inr, sym, subst, refl, arith, lit<}
 use Rattle.std.specs.Option.{ForSome}
 use Rattle.std.proofs.lemmas.Option.{none-some, same_Some}
 use Rattle.frp_tree.specs.Tree.{ProgramTree}
 use Rattle.pic_regs.specs.declared.places.Place.{Place}
 use Rattle.bank_alloc.specs.declared.needs.Needs.{Needs}
-use Rattle.priority_masks.specs.Levels.{AreLevelsOf, level_of}
+use Rattle.priority_masks.specs.Levels.{level_of}
 use Rattle.priority_masks.proofs.LevelLaws.{levels-rise}
 use Rattle.glue_parts.specs.declared.kept.TheConstants.{SAVED_PCLATH, SAVED_STATUS}
 use Rattle.scratch_commit.specs.declared.frames.Frame.{Frame}

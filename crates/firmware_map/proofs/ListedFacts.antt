@@ -1,25 +1,21 @@
 -- Each register that firmware's parts write is listed.
-use Rattle.std.proofs.Common.{◌≡◌, ℕ, zero, suc, ◌+◌, ◌<◌, ◌≤◌, ◌||◌, ◌&&◌, Bool, true, false, List, [], ◌∷◌, Option, Some, None, length, ap, sym, subst, ◌∙◌, refl, arith, eq-eqb}
+use Rattle.std.proofs.Common.{◌≡◌, ℕ, zero, suc, ◌+◌, ◌<◌, ◌||◌, ◌&&◌, true, false, List, [], ◌∷◌, Option, Some, None, length, ap, sym, subst, ◌∙◌, refl, arith, eq-eqb}
 use Rattle.std.specs.Prelude.{◌==◌, nat_lt, slice_get}
-use Rattle.std.specs.List.{AllByRecursion, list_any}
 use Rattle.std.specs.Int.{bit_at}
-use Rattle.std.proofs.lemmas.Bool.{and_from, both_ways, cases_eq, ltb-true, lt-ltb, ne_eqb, or_left, or_right}
-use Rattle.std.proofs.lemmas.Bool.Decides.{nat_tests}
+use Rattle.std.proofs.lemmas.Bool.{and_from, both_ways, lt-ltb, ne_eqb, or_left, or_right}
 use Rattle.std.proofs.lemmas.Map.Keys.{any_passes_from_place}
 use Rattle.frp_tree.specs.declared.syntax.Event.{Event}
 use Rattle.frp_tree.specs.declared.syntax.Setup.{Setup}
 use Rattle.frp_tree.specs.Tree.{OutputTree, ProgramTree}
-use Rattle.efrp_types.specs.Numbers.{event_source}
 use Rattle.pic_isa.specs.declared.sources.Source.{Source}
 use Rattle.pic_isa.specs.declared.sources.BitAt.{BitAt}
 use Rattle.pic_isa.specs.Names.{port_at, register_at}
 use Rattle.pic_isa.specs.Sources.{enable_of, flag_of, source_name}
 use Rattle.pic_regs.specs.Bytes.{bit, bits, zeros}
-use Rattle.pic_regs.specs.Map.{canonical, within}
+use Rattle.pic_regs.specs.Map.{within}
 use Rattle.pic_regs.proofs.BitLaws.{from_bits}
 use Rattle.map_file.specs.declared.maps.Map.{Map}
 use Rattle.bank_alloc.specs.Addresses.{address_of}
-use Rattle.bank_alloc.specs.Needs.{bytes_of}
 use Rattle.priority_masks.specs.Levels.{HasEnablesIn}
 use Rattle.scratch_commit.specs.declared.frames.Frame.{Frame}
 use Rattle.scratch_commit.specs.Frames.{is_in_frame}
@@ -30,7 +26,7 @@ use Rattle.firmware_map.specs.Maps.{IsMapOf, Made}
 use Rattle.firmware_map.specs.Laws.{HasSource, IsPlaced, ListsWritten}
 use Rattle.firmware_map.proofs.CellFacts.{some-at}
 use Rattle.firmware_map.proofs.NameFacts.{source-named}
-use Rattle.firmware_map.proofs.WrittenFacts.{Kind, kind-below, written-kind}
+use Rattle.firmware_map.proofs.WrittenFacts.{kind-below, written-kind}
 
 -- No bit of the byte 0 is set.
 no-bit : (i : ℕ) → bit i zeros ≡ false

@@ -1,17 +1,17 @@
 -- A map of a program's firmware lists, names and reports rightly, and keeps the rules of maps.
-use Rattle.std.proofs.Common.{◌≡◌, ◌≢◌, ℕ, zero, suc, ◌+◌, ◌<◌, ◌≤◌, ◌&&◌, Bool, true, false, List, [], ◌∷◌, ◌++◌, length, filter, map, Option, Some, None, sum_by, ap, sym, subst, ◌∙◌, refl, arith}
-use Rattle.std.specs.Prelude.{◌==◌, ◌^◌, nat_lt, slice_get, option_map, IsTrue}
+use Rattle.std.proofs.Common.{◌≡◌, ℕ, ◌+◌, ◌<◌, ◌≤◌, ◌&&◌, true, List, [], ◌∷◌, ◌++◌, length, filter, map, Some, ap, sym, subst, ◌∙◌, refl, arith}
+use Rattle.std.specs.Prelude.{◌^◌, nat_lt, slice_get, option_map, IsTrue}
 use Rattle.std.specs.List.{AllByRecursion, flat_map}
 use Rattle.std.proofs.lemmas.Bool.{and_parts}
 use Rattle.std.proofs.lemmas.List.{length-map}
-use Rattle.std.proofs.lemmas.Option.{same_Some, slice_get-map}
+use Rattle.std.proofs.lemmas.Option.{slice_get-map}
 use Rattle.text_parts.specs.Names.{is_name}
 use Rattle.frp_tree.specs.declared.syntax.Event.{Event}
 use Rattle.frp_tree.specs.declared.syntax.Ty.{Ty}
 use Rattle.frp_tree.specs.declared.syntax.Ty.TheVariants.{Bool as BoolTy, U8, U16}
 use Rattle.frp_tree.specs.Priorities.{IsPriority}
 use Rattle.frp_tree.specs.Tree.{DeclTree, OutputTree, ProgramTree}
-use Rattle.efrp_meaning.specs.Bounds.{levels, state_bytes, type_bytes}
+use Rattle.efrp_meaning.specs.Bounds.{state_bytes, type_bytes}
 use Rattle.efrp_meaning.specs.Decls.{inputs_of}
 use Rattle.efrp_meaning.specs.Needs.{inputs_needed, is_named_in, needed}
 use Rattle.efrp_types.proofs.GoodLaws.{no-fault-is-good}
@@ -19,9 +19,8 @@ use Rattle.pic_isa.specs.Names.{port_at}
 use Rattle.pic_isa.specs.Sources.{source_name}
 use Rattle.map_file.specs.declared.maps.MapEvent.{MapEvent}
 use Rattle.map_file.specs.declared.maps.MapState.{MapState}
-use Rattle.map_file.specs.declared.maps.MapSample.{MapSample}
 use Rattle.map_file.specs.declared.maps.Map.{Map}
-use Rattle.map_file.specs.MapRules.{AddressesFit, AllDiffer, IsCode, IsData, IsEvent, IsMap, IsSample, IsState, pair}
+use Rattle.map_file.specs.MapRules.{AddressesFit, AllDiffer, IsCode, IsData, IsEvent, IsSample, IsState, pair}
 use Rattle.bank_alloc.specs.declared.needs.Needs.{Needs}
 use Rattle.bank_alloc.specs.Addresses.{address_of}
 use Rattle.bank_alloc.specs.Needs.{bytes_of}
@@ -29,9 +28,8 @@ use Rattle.bank_alloc.proofs.AddressLaws.{addresses-general}
 use Rattle.glue_parts.specs.Marks.{mark, Committing, Opening, Ready}
 use Rattle.expr_lower.specs.Nodes.{new_pair}
 use Rattle.expr_lower.specs.Places.{is_wide}
-use Rattle.event_code.specs.States.{states_from, states_of}
 use Rattle.firmware_promises.specs.MapNames.{is_listed}
-use Rattle.firmware_promises.specs.Firmware.{count_below, event_of, is_banked, typed_decl, typed_state}
+use Rattle.firmware_promises.specs.Firmware.{event_of, is_banked, typed_state}
 use Rattle.firmware_map.specs.Written.{Used, is_written}
 use Rattle.firmware_map.specs.Maps.{IsMapOf, Made}
 use Rattle.firmware_map.specs.Laws.{FitsMap, HasNames, IsPlaced, MapKeepsRules, MapListsRightly, MapListsWritten, MapNamesItems, MapReportsFew}
@@ -39,7 +37,7 @@ use Rattle.firmware_map.proofs.CellFacts.{count-few}
 use Rattle.firmware_map.proofs.ListedFacts.{cell-listed, lists-written}
 use Rattle.firmware_map.proofs.PortFacts.{small-port}
 use Rattle.firmware_map.proofs.RowFacts.{all-at, all-from, differ-map, differ-more, distinct-differ}
-use Rattle.firmware_map.proofs.StateFacts.{addresses, all-states, each-state, few-states, names-differ, size, states-differ, states-named}
+use Rattle.firmware_map.proofs.StateFacts.{addresses, all-states, each-state, few-states, names-differ, states-differ, states-named}
 use Rattle.firmware_map.proofs.WrittenFacts.{banked-below, banked-cell, kind-right, written-kind}
 
 pub map-lists-written : (p : ProgramTree) (u : Used) (made : Made) (m : Map) → MapListsWritten p u made m

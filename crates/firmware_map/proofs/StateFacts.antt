@@ -1,17 +1,14 @@
 -- The states of a program as a map lists them: their names, and the addresses of their bytes.
-use Rattle.std.proofs.Common.{◌≡◌, ◌≢◌, ℕ, zero, suc, ◌+◌, ◌<◌, ◌≤◌, Bool, true, false, List, [], ◌∷◌, ◌++◌, length, filter, map, sum_by, if◌then◌else◌, refl, sym, ap, subst, ◌∙◌, arith}
-use Rattle.std.specs.Prelude.{IsTrue}
+use Rattle.std.proofs.Common.{◌≡◌, ◌≢◌, ℕ, suc, ◌+◌, ◌<◌, ◌≤◌, List, [], ◌∷◌, ◌++◌, length, filter, map, sum_by, if◌then◌else◌, refl, ap, arith}
 use Rattle.std.specs.List.{AllByRecursion, flat_map}
 use Rattle.std.proofs.lemmas.List.Sums.{sum_by-cons}
-use Rattle.text_parts.specs.Names.{is_name}
 use Rattle.frp_tree.specs.declared.syntax.Ty.{Ty}
 use Rattle.frp_tree.specs.declared.syntax.Ty.TheVariants.{Bool as BoolTy, U8, U16}
-use Rattle.frp_tree.specs.Tree.{BehaviourTree, Plain, Input, Table, Reactive, DeclTree}
+use Rattle.frp_tree.specs.Tree.{BehaviourTree, Reactive, DeclTree}
 use Rattle.efrp_meaning.specs.Bounds.{bytes_in, type_bytes}
 use Rattle.efrp_meaning.specs.Decls.{is_reactive}
 use Rattle.map_file.specs.declared.maps.MapState.{MapState}
-use Rattle.map_file.specs.MapRules.{AddressesFit, AllDiffer, IsState}
-use Rattle.byte_ops.specs.declared.operations.Pair.{Pair}
+use Rattle.map_file.specs.MapRules.{AllDiffer}
 use Rattle.expr_lower.specs.Nodes.{new_pair}
 use Rattle.expr_lower.specs.Numbered.{state_cells}
 use Rattle.expr_lower.specs.Places.{is_wide}

@@ -1,5 +1,5 @@
 -- What the registers are that firmware may write.
-use Rattle.std.proofs.Common.{◌≡◌, ℕ, zero, suc, ◌+◌, ◌*◌, ◌<◌, ◌≤◌, ◌||◌, ◌&&◌, Bool, true, false, List, [], ◌∷◌, Option, Some, None, IfSome, inl, inr, ap, sym, subst, ◌∙◌, refl, arith, lit<, eq-eqb}
+use Rattle.std.proofs.Common.{◌≡◌, ℕ, zero, suc, ◌+◌, ◌<◌, ◌≤◌, ◌||◌, ◌&&◌, Bool, true, false, List, [], ◌∷◌, Option, Some, None, IfSome, inl, inr, ap, sym, subst, refl, arith, lit<, eq-eqb}
 use Rattle.std.specs.Prelude.{◌==◌, not}
 use Rattle.std.specs.List.{AllByRecursion, list_any}
 use Rattle.std.specs.Option.{ForSome}

@@ -1,6 +1,5 @@
 -- The map of a program's firmware, field by field.
-use Rattle.std.specs.Prelude.{◌≡◌, ℕ, ◌≤◌, Bool, ◌&&◌, nat_lt, List, [], map, slice_get, get_or, Option, Some}
-use Rattle.frp_tree.specs.declared.syntax.Event.{Event}
+use Rattle.std.specs.Prelude.{◌≡◌, ℕ, ◌≤◌, ◌&&◌, nat_lt, List, [], map, slice_get, get_or, Some}
 use Rattle.frp_tree.specs.Tree.{OutputTree, ProgramTree}
 use Rattle.efrp_meaning.specs.Bounds.{levels, state_bytes}
 use Rattle.pic_isa.specs.Names.{port_at}
@@ -10,7 +9,7 @@ use Rattle.map_file.specs.MapRules.{RangesRise}
 use Rattle.bank_alloc.specs.Needs.{bytes_of}
 use Rattle.glue_parts.specs.Marks.{mark, Committing, Opening, Ready}
 use Rattle.event_code.specs.States.{states_of}
-use Rattle.firmware_promises.specs.MapNames.{is_in, is_listed}
+use Rattle.firmware_promises.specs.MapNames.{is_listed}
 use Rattle.firmware_promises.specs.Firmware.{count_below, event_of, is_banked}
 use Rattle.firmware_map.specs.Written.{Used, is_written}
 

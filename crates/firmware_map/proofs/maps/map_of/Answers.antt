@@ -1,5 +1,4 @@
-use Rattle.std.proofs.Common.{◌≡◌, ℕ, ◌&&◌, Bool, ap, sym, ◌∙◌, refl}
-use Rattle.std.specs.Prelude.{nat_lt}
+use Rattle.std.proofs.Common.{◌∙◌, refl}
 use Rattle.firmware_promises.specs.MapNames.{is_in}
 use Rattle.firmware_promises.specs.Firmware.{is_banked}
 use Rattle.firmware_map.specs.Written.{is_written, program_of, used_by}

@@ -2,7 +2,7 @@ use Rattle.std.proofs.Common.{List, map, ap, sym, subst, ◌∙◌}
 use Rattle.std.specs.List.{AllByRecursion}
 use Rattle.std.proofs.lemmas.List.{take_all}
 use Rattle.frp_tree.specs.declared.syntax.Output.{Output}
-use Rattle.frp_tree.specs.Tree.{OutputTree, output_of, program_tree_of}
+use Rattle.frp_tree.specs.Tree.{output_of, program_tree_of}
 use Rattle.pic_isa.specs.Names.{port_at}
 use Rattle.firmware_map.proofs.PortFacts.{HasPort, none-missing, outputs-have-ports, ports-of}
 use Rattle.firmware_map.proofs.maps.outputs.Goals as goal

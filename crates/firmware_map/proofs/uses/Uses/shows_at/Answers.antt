@@ -1,4 +1,4 @@
-use Rattle.std.proofs.Common.{List, map, ap, ◌∙◌}
+use Rattle.std.proofs.Common.{ap, ◌∙◌}
 use Rattle.std.specs.List.{list_any}
 use Rattle.frp_tree.specs.declared.syntax.Output.{Output}
 use Rattle.pic_isa.specs.Names.{port_at}
