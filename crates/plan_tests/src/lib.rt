@@ -1,5 +1,7 @@
-//! Tests of what events need and of their plans, by their public calls.
+//! Tests of what events need, of their plans, and of the map of firmware, by their public calls.
 #![tactic(auto)]
 
+#[cfg(test)]
+mod map_tests;
 #[cfg(test)]
 mod plan_tests;
