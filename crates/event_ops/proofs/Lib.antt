@@ -10,7 +10,7 @@ pub mod NewStateFacts
 pub mod OutputFacts
 pub mod PieceFacts
 pub mod PlaceFacts
-pub mod PortFacts
+pub mod PortLaws
 pub mod ReadyFacts
 pub mod StepFacts
 pub mod SumFacts

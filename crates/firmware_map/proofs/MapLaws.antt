@@ -26,6 +26,8 @@ use Rattle.bank_alloc.specs.Addresses.{address_of}
 use Rattle.bank_alloc.specs.Needs.{bytes_of}
 use Rattle.bank_alloc.proofs.AddressLaws.{addresses-general}
 use Rattle.glue_parts.specs.Marks.{mark, Committing, Opening, Ready}
+use Rattle.event_needs.proofs.ListLaws.{all-from, each-at}
+use Rattle.event_ops.proofs.PortLaws.{small-port}
 use Rattle.expr_lower.specs.Nodes.{new_pair}
 use Rattle.expr_lower.specs.Places.{is_wide}
 use Rattle.firmware_promises.specs.MapNames.{is_listed}
@@ -35,8 +37,7 @@ use Rattle.firmware_map.specs.Maps.{IsMapOf, Made}
 use Rattle.firmware_map.specs.Laws.{FitsMap, HasNames, IsPlaced, MapKeepsRules, MapListsRightly, MapListsWritten, MapNamesItems, MapReportsFew}
 use Rattle.firmware_map.proofs.CellFacts.{count-few}
 use Rattle.firmware_map.proofs.ListedFacts.{cell-listed, lists-written}
-use Rattle.firmware_map.proofs.PortFacts.{small-port}
-use Rattle.firmware_map.proofs.RowFacts.{all-at, all-from, differ-map, differ-more, distinct-differ}
+use Rattle.firmware_map.proofs.RowFacts.{differ-map, differ-more, distinct-differ}
 use Rattle.firmware_map.proofs.StateFacts.{addresses, all-states, each-state, few-states, names-differ, states-differ, states-named}
 use Rattle.firmware_map.proofs.WrittenFacts.{banked-below, banked-cell, kind-right, written-kind}
 
@@ -101,8 +102,8 @@ module _ (p : ProgramTree) (u : Used) (made : Made) (m : Map) (is : IsMapOf p u 
 
   event-rule : HasNames p → AllByRecursion (λ (e : Event). IsPriority e.priority) p.events → FitsMap made → (n : ℕ) (e : MapEvent) → slice_get m.events n ≡ Some e → IsEvent e
   event-rule names priorities fits n e at = record {
-    name = all-at (λ (x : Event). IsTrue (is_name x.name)) p.events n (event_of e) names.events (there n e at);
-    priority = all-at (λ (x : Event). IsPriority x.priority) p.events n (event_of e) priorities (there n e at);
+    name = each-at (λ (x : Event). IsTrue (is_name x.name)) p.events n (event_of e) names.events (there n e at);
+    priority = each-at (λ (x : Event). IsPriority x.priority) p.events n (event_of e) priorities (there n e at);
     opens = subst IsCode (sym (is.events.opens n e at)) (fits.marks (mark (Opening n)));
     commits = subst IsCode (sym (is.events.commits n e at)) (fits.marks (mark (Committing n)));
   }

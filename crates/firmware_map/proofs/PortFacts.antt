@@ -1,58 +1,24 @@
--- Each output of a program whose names have no fault is on a port, whose number is 0 to 4; outputs in memory.
-use Rattle.std.specs.Prelude.{◌≡◌, ℕ, ◌<◌, ◌≤◌, ◌||◌, Bool, true, false, List, [], ◌∷◌, ◌++◌, cond, get_or, length, map, option_map, refl, slice_get, Some, None}
-use Rattle.std.specs.List.{AllByRecursion, flat_map, list_any}
-use Rattle.std.specs.Map.{lookup}
-use Rattle.std.specs.Str.{bytes_eq}
-use Rattle.std.proofs.Common.{ap, arith, subst, sym, ◌∙◌}
+-- The ports of outputs as they lie in memory.
+use Rattle.std.specs.Prelude.{◌≡◌, ℕ, ◌<◌, ◌||◌, List, [], ◌∷◌, get_or, length, map, refl, None}
+use Rattle.std.specs.List.{AllByRecursion, list_any}
+use Rattle.std.proofs.Common.{ap}
 use Rattle.std.proofs.lemmas.Bool.{both_ways}
-use Rattle.std.proofs.lemmas.Option.{none-some, same_Some, slice_get-get_or, slice_get-map}
 use Rattle.frp_tree.specs.declared.syntax.Output.{Output}
-use Rattle.frp_tree.specs.Tree.{OutputTree, ProgramTree, output_of}
-use Rattle.pic_isa.specs.Names.{port_at, ports}
-use Rattle.efrp_types.specs.declared.faults.CheckFault.TheVariants.{BadRegister}
-use Rattle.efrp_types.specs.NameFaults.{decl_faults, each_after, event_faults, expression_faults, is_none, item_faults, name_faults, output_faults, port_faults, setup_faults}
-use Rattle.efrp_types.proofs.NodeLaws.{both-none, fault-false}
+use Rattle.frp_tree.specs.Tree.{OutputTree, output_of}
+use Rattle.pic_isa.specs.Names.{port_at}
+use Rattle.efrp_types.specs.NameFaults.{is_none}
+use Rattle.event_needs.proofs.ListLaws.{each-at}
+use Rattle.event_needs.proofs.NumberLaws.{tree-at}
+use Rattle.event_ops.proofs.PortLaws.{HasPort}
 use Rattle.firmware_promises.specs.Firmware.{is_port_at}
-use Rattle.firmware_map.proofs.RowFacts.{all-at}
 
--- A name that stands for a port.
-abbrev pub HasPort : OutputTree → Type 0
-HasPort o = is_none (port_at o.port) ≡ false
-
-outputs-have : (before os : List OutputTree) → each_after output_faults before os ≡ [] → AllByRecursion HasPort os
-outputs-have before [] none = tt
-outputs-have before (o ∷ os) none =
-    let parts = both-none (output_faults before o) (each_after output_faults (before ++ o ∷ []) os) none in
-    let own = both-none (port_faults o.port) _ parts.0 in
-    (fault-false (is_none (port_at o.port)) (BadRegister o.port) own.0, outputs-have (before ++ o ∷ []) os parts.1)
-
-pub outputs-have-ports : (p : ProgramTree) → name_faults p ≡ [] → AllByRecursion HasPort p.outputs
-outputs-have-ports p none =
-    let items = both-none (each_after event_faults [] p.events) _ (both-none (item_faults p) (expression_faults p) none).0 in
-    let rest = both-none (flat_map setup_faults p.setups) _ items.1 in
-    let outputs = both-none (each_after (decl_faults p.events) [] p.decls) (each_after output_faults [] p.outputs) rest.1 in
-    outputs-have [] p.outputs outputs.1
-
-small-entry : (test : List ℕ → Bool) (entries : List (List ℕ × ℕ)) → AllByRecursion (λ (e : List ℕ × ℕ). e.1 ≤ 4) entries → (n : ℕ) → lookup test entries ≡ Some n → n ≤ 4
-small-entry test [] all n found = absurd (none-some n found)
-small-entry test (e ∷ es) all n found = by_test (test e.0) found (small-entry test es all.1 n)
-  where
-    by_test : (b : Bool) → cond b (Some e.1) (lookup test es) ≡ Some n → (lookup test es ≡ Some n → n ≤ 4) → n ≤ 4
-    by_test true is rest = subst (λ k. k ≤ 4) (same_Some e.1 n is) all.0
-    by_test false is rest = rest is
-
-pub small-port : (name : List ℕ) (n : ℕ) → port_at name ≡ Some n → n ≤ 4
-small-port name n is = small-entry (bytes_eq name) ports (omega arith, (omega arith, (omega arith, (omega arith, (omega arith, tt))))) n is
-
--- The ports of outputs in memory.
 pub ports-of : (os : List Output) → map (λ (o : OutputTree). port_at o.port) (map output_of os) ≡ map (λ (o : Output). port_at o.port) os
 ports-of [] = refl
 ports-of (o ∷ os) = ap (λ ports. port_at o.port ∷ ports) (ports-of os)
 
 pub none-missing : (os : List Output) (i : ℕ) (o : Output) → AllByRecursion HasPort (map output_of os) → i < length os → o ≡ get_or os i o → port_at o.port ≡ None → ⊥
 none-missing os i o have inside is missing =
-    let at : slice_get (map output_of os) i ≡ Some (output_of o) = slice_get-map output_of os i ∙ ap (option_map output_of) (slice_get-get_or os i o inside ∙ ap (λ (x : Output). Some x) (sym is)) in
-    both_ways (is_none (port_at o.port)) (all-at HasPort (map output_of os) i (output_of o) have at) (ap is_none missing)
+    both_ways (is_none (port_at o.port)) (each-at HasPort (map output_of os) i (output_of o) have (tree-at output_of os os i o refl inside is)) (ap is_none missing)
 
 pub shown-of : (a : ℕ) (os : List Output) → list_any (λ (o : Output). is_port_at a (port_at o.port)) os ≡ list_any (λ (o : OutputTree). is_port_at a (port_at o.port)) (map output_of os)
 shown-of a [] = refl

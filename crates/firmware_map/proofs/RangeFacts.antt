@@ -6,6 +6,7 @@ use Rattle.std.proofs.lemmas.Bool.Decides.{nat_tests}
 use Rattle.std.proofs.Math.Bool.{or_assoc, or-false}
 use Rattle.map_file.specs.declared.maps.Range.{Range}
 use Rattle.map_file.specs.MapRules.{RangesRise}
+use Rattle.event_needs.proofs.ListLaws.{all-append}
 use Rattle.firmware_promises.specs.MapNames.{is_in}
 use Rattle.firmware_map.specs.Ranges.{EndBelow, HoldBelow}
 
@@ -60,8 +61,7 @@ ends-further bound [] h = tt
 ends-further bound (r ∷ rs) h = let less = h.0 in (omega (arith, less), ends-further bound rs h.1)
 
 ends-with : (bound : ℕ) (rs : List Range) (r : Range) → EndBelow bound rs → r.to < bound → EndBelow bound (rs ++ r ∷ [])
-ends-with bound [] r h last = (last, tt)
-ends-with bound (s ∷ rs) r h last = (h.0, ends-with bound rs r h.1 last)
+ends-with bound rs r h last = all-append (λ (s : Range). s.to < bound) rs (r ∷ []) h (last, tt)
 
 ends-before : (bound : ℕ) (rs : List Range) (r : Range) → EndBelow bound (rs ++ r ∷ []) → EndBelow bound rs
 ends-before bound [] r h = tt

@@ -18,6 +18,7 @@ use Rattle.pic_regs.specs.declared.places.Place.{Place}
 use Rattle.pic_regs.specs.declared.places.Place.TheVariants as place
 use Rattle.pic_regs.specs.Map.{canonical, lowest, within}
 use Rattle.pic_regs.proofs.SetupRegisterLaws.{register_is_lowest}
+use Rattle.event_ops.proofs.PortLaws.{small-port}
 use Rattle.bank_alloc.specs.declared.needs.Needs.{Needs}
 use Rattle.bank_alloc.specs.Addresses.{address_of}
 use Rattle.bank_alloc.specs.Needs.{bytes_of}
@@ -29,7 +30,6 @@ use Rattle.scratch_commit.specs.Frames.{is_byte, is_in_frame}
 use Rattle.firmware_map.specs.Written.{Used, is_cell, is_common, is_of_event, is_of_name, is_of_run, is_of_source, is_output, is_set_up, is_written}
 use Rattle.firmware_map.specs.Laws.{IsFrame, IsFramePlace, IsPlaced}
 use Rattle.firmware_map.proofs.CellFacts.{Passing, some-found}
-use Rattle.firmware_map.proofs.PortFacts.{small-port}
 
 -- The lowest address of a register, below 200h, that is no banked byte.
 pub record Special (a : ℕ) : Type 0 where

@@ -15,7 +15,7 @@ use Rattle.event_needs.proofs.NumberLaws.{tree-at}
 use Rattle.event_ops.specs.declared.results.Put.{Put}
 use Rattle.event_ops.specs.Drafts.{Shows}
 use Rattle.event_ops.proofs.OutputFacts.{can-add-output, shows-more}
-use Rattle.event_ops.proofs.PortFacts.{HasPort, outputs-have-ports, small-port}
+use Rattle.event_ops.proofs.PortLaws.{HasPort, outputs-have-ports, small-port}
 use Rattle.event_ops.proofs.assigning.add_outputs.Goals as goal
 
 pub add_lasting-requires-clause-can : goal.add_lasting-requires-clause-can

@@ -4,11 +4,12 @@ use Rattle.frp_tree.specs.declared.syntax.Event.{Event}
 use Rattle.frp_tree.specs.Priorities.{IsPriority}
 use Rattle.frp_tree.specs.Tree.{program_tree_of}
 use Rattle.efrp_types.proofs.GoodLaws.{no-fault-is-good}
+use Rattle.event_needs.proofs.ListLaws.{each-at}
 use Rattle.map_file.specs.declared.maps.MapEvent.{MapEvent}
 use Rattle.glue_parts.specs.Marks.{mark, Committing, Opening}
 use Rattle.firmware_promises.specs.Firmware.{event_of}
 use Rattle.firmware_map.proofs.EventFacts.{events-before, events-more, stands-at}
-use Rattle.firmware_map.proofs.RowFacts.{all-at, push-at}
+use Rattle.firmware_map.proofs.RowFacts.{push-at}
 use Rattle.firmware_map.proofs.maps.events.Goals as goal
 
 pub overflow_cast-event : goal.overflow_cast-event
@@ -17,7 +18,7 @@ overflow_cast-event c =
     let all = c.as_slice-declared.ensures ∙ ap (λ x. x.events) c.program.ensures in
     let at = stands-at c.as_slice-declared.result.now c.loop-n.n c.index-declared-n.result c.loop-n-test.true c.index-declared-n.is in
     let priorities = (no-fault-is-good (program_tree_of typed.program) typed.checked.names).priorities in
-    let its = all-at (λ (e : Event). IsPriority e.priority) typed.program.events c.loop-n.n c.index-declared-n.result priorities (ap (λ (es : List Event). slice_get es c.loop-n.n) (sym all) ∙ at) in
+    let its = each-at (λ (e : Event). IsPriority e.priority) typed.program.events c.loop-n.n c.index-declared-n.result priorities (ap (λ (es : List Event). slice_get es c.loop-n.n) (sym all) ∙ at) in
     let small = its.1 in
     omega (arith, small)
 

@@ -4,7 +4,8 @@ use Rattle.std.proofs.lemmas.List.{take_all}
 use Rattle.frp_tree.specs.declared.syntax.Output.{Output}
 use Rattle.frp_tree.specs.Tree.{output_of, program_tree_of}
 use Rattle.pic_isa.specs.Names.{port_at}
-use Rattle.firmware_map.proofs.PortFacts.{HasPort, none-missing, outputs-have-ports, ports-of}
+use Rattle.event_ops.proofs.PortLaws.{HasPort, outputs-have-ports}
+use Rattle.firmware_map.proofs.PortFacts.{none-missing, ports-of}
 use Rattle.firmware_map.proofs.maps.outputs.Goals as goal
 
 pub unreachable-requires : goal.unreachable-requires
