@@ -229,7 +229,7 @@ module _ (f : Code) (g : ℕ → Bool) (st : List Run) (v : Values) (outer : Out
       set = ends.set;
       best = λ y its real other. let set = flag_is_of f y chooses.chip.regs (chooses.was_set y its) in as_urgent f ends.event y (ends.best y set.0 set.1 other);
       above = ends.above;
-      leads = (f.runs ends.event (let higher = ends.above in omega (arith, higher))).starts chooses.chip c (level_of_top f.l st) ends.there ends.off (paused_usual f st chooses.chip chooses.paused) ends.entered
+      leads = (f.runs ends.event (let higher = ends.above in omega (arith, higher))).starts chooses.chip c (level_of_top f.l st) ends.there ends.off chooses.glue.past.rbie (paused_usual f st chooses.chip chooses.paused) ends.entered
           (paused_level f st chooses.chip chooses.paused) ends.above (paused_low f st chooses.chip chooses.paused) (subst (IsState f.p) (sym chooses.shows) chooses.glue.past.typed);
     }
 

@@ -30,9 +30,9 @@ module _ (p : ProgramTree) (m : Map) (t : Timing) (l : Layout) (Saved : ℕ → 
   pub run_gives_back : DoesRun p m t l (GivesBack t l) starting e
   run_gives_back = record {
     saved_stays = λ x c d saved enables frame y more bytes. saved y (enables_same c d y enables more) (λ address its. bytes address its ∙ frame address its);
-    starts = λ x c low there off usual entered at_level above home typed.
+    starts = λ x c low there off rbie usual entered at_level above home typed.
         tells_wider l.program _ _ (AtClear p m l Saved e x) (AtClear p m l (GivesBack t l) e x) (λ d done step. step) (clear_gives_back x) _ starting c
-        (run.starts x c low there off usual entered at_level above home typed);
+        (run.starts x c low there off rbie usual entered at_level above home typed);
     clears = run.clears;
     opens_next = run.opens_next;
     begins = run.begins;

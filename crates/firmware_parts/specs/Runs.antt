@@ -136,8 +136,8 @@ pub record AtReturn (l : Layout) (x c : Chip) : Type 0 where
 pub record DoesRun (p : ProgramTree) (m : Map) (t : Timing) (l : Layout) (Saved : ℕ → Chip → Chip → Type 0) (starting : ℕ) (e : ℕ) : Type 0 where
   -- What is saved lies in the frame, but for enables that the run doesn't change.
   pub saved_stays : (x c d : Chip) → Saved e x c → SameEnables c d → ((address : ℕ) → l.frame e address ≡ true → d.regs.plain address ≡ c.regs.plain address) → Saved e x d
-  -- At level 0 it is the ready address that was interrupted.
-  pub starts : (x c : Chip) (low : ℕ) → c.pc ≡ l.entry e → Off c → Usual l x → Entered l x c → AtLevel l low x → low < l.level e
+  -- At level 0 it is the ready address that was interrupted. RBIE is clear.
+  pub starts : (x c : Chip) (low : ℕ) → c.pc ≡ l.entry e → Off c → c.regs.intcon.b3 ≡ false → Usual l x → Entered l x c → AtLevel l low x → low < l.level e
       → (low ≡ 0 → Holds (Known 0) x × (x.regs.pclath ≡ zeros)) → IsState p (l.states c.regs.plain)
       → Leads l (Start e) (AtClear p m l Saved e x) [] starting c
   pub clears : (c : Chip) → c.pc ≡ l.clear e → (l.is_short e ≡ false → Holds (Known 0) c) → (l.is_short e ≡ true → Holds (l.bank e) c) → own l.program c ≡ Some (did (Lower (l.source e)) c)
