@@ -1,0 +1,5 @@
+pub mod Deeds
+pub mod Laws
+pub mod Premises
+pub mod Saved
+pub mod Spots
