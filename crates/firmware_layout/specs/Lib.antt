@@ -1,0 +1,5 @@
+pub mod Heard
+pub mod Laws
+pub mod Layouts
+pub mod Pieces
+pub mod Sound
