@@ -15,8 +15,6 @@ use Rattle.glue_parts.specs.Marks.{Boot as BootMark, Entry, mark}
 use Rattle.glue_parts.specs.Moves.{puts_by}
 use Rattle.firmware_promises.specs.Firmware.{is_at}
 use Rattle.scratch_commit.specs.declared.frames.Frame.{Frame}
-use Rattle.scratch_commit.specs.declared.masks.Masks.{Masks}
-use Rattle.scratch_commit.specs.declared.masks.Masked.{Masked}
 use Rattle.scratch_commit.specs.Plans.{Plan, context_in, frame_in, is_short, masks_in, over_idle}
 use Rattle.run_steps.specs.Spots.{Spots, exit_bank, is_locked, open_bank, spots_of}
 use Rattle.isr_vector.specs.Taking.{context_of}
@@ -87,13 +85,14 @@ abbrev pub is_in_frame : Frame → ℕ → Bool
 is_in_frame frame address =
     is_byte address frame.status || is_byte address frame.pclath || is_byte address frame.intcon || is_byte address frame.pie1 || is_byte address frame.pie2
 
--- A register of enables of which a bit is cleared.
-abbrev pub is_changed : Masked → Bool
-is_changed m = not (is_zero (bits m.cleared))
+-- A register of enables of which a run's masks clear a bit: these bits of it.
+abbrev pub is_changed : (cleared : ℕ) → Bool
+is_changed cleared = not (is_zero (bits cleared))
 
-abbrev pub is_masked : Masks → ℕ → Bool
-is_masked masks address =
-    is_changed masks.intcon && address == 0x00B || is_changed masks.pie1 && address == 0x08C || is_changed masks.pie2 && address == 0x08D
+abbrev pub is_masked : Plan → ℕ → Bool
+is_masked plan address =
+    is_changed (masks_in plan).intcon.cleared && address == 0x00B || is_changed (masks_in plan).pie1.cleared && address == 0x08C
+    || is_changed (masks_in plan).pie2.cleared && address == 0x08D
 
 -- An operand byte, or one of an event's cells beside those of states.
 abbrev pub is_scratch : Makings → (event : ℕ) → ℕ → Bool
@@ -116,14 +115,14 @@ abbrev pub writes_in : Makings → (listed : ℕ → Bool) → Part → ℕ → 
 writes_in f listed Boot address = listed address
 writes_in f listed Taking address = address == 0x071 || address == 0x072 || is_page f address
 writes_in f listed (Start e) address =
-    is_in_frame (frame_in (plan_in f e)) address || is_masked (masks_in (plan_in f e)) address || is_short (kind_of f e) && is_of_work f e address
+    is_in_frame (frame_in (plan_in f e)) address || is_masked (plan_in f e) address || is_short (kind_of f e) && is_of_work f e address
 writes_in f listed (Begin e) address = address == 0x073 || is_page f address
 writes_in f listed (Work e) address = is_of_work f e address || has_lock f e && is_page f address
 writes_in f listed (Lock e) address = is_page f address
 writes_in f listed (Open e) address = is_target (f.moves e) address
 writes_in f listed (Copying e) address = is_target (f.moves e) address
 writes_in f listed (Commit e) address = is_target (f.moves e) address || address == 0x073
-writes_in f listed (Exit e) address = is_masked (masks_in (plan_in f e)) address || is_page f address
+writes_in f listed (Exit e) address = is_masked (plan_in f e) address || is_page f address
 
 -- The layout of code with this program memory and these addresses of marks, where these registers are listed.
 abbrev pub layout_of : Makings → (program marks : ℕ → ℕ) → (listed : ℕ → Bool) → Layout

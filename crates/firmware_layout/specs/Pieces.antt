@@ -13,7 +13,6 @@ use Rattle.glue_parts.specs.declared.moves.Move.{Move}
 use Rattle.glue_parts.specs.declared.spread.Spread.{Spread}
 use Rattle.scratch_commit.specs.declared.kinds.Kind.{Kind}
 use Rattle.scratch_commit.specs.declared.kinds.Kind.TheVariants.{Short, Long, Bottom, Middle}
-use Rattle.scratch_commit.specs.declared.masks.Heard.{Heard}
 use Rattle.scratch_commit.specs.Plans.{Plan, run_items}
 use Rattle.isr_vector.specs.Booting.{boot_lines}
 use Rattle.isr_vector.specs.Taking.{context_of, taking_items}
@@ -42,10 +41,6 @@ kind_of f event =
     else if nat_le (length (f.work event)) (short_work f.p) then Short
     else Long
 
--- What is heard at idle, at a level and at the level beneath it.
-abbrev pub heard_about : ProgramTree → (level : ℕ) → Heard
-heard_about p level = record { idle = heard p 0; own = heard p level; beneath = heard p (level - 1) }
-
 -- The plan of an event's run.
 abbrev pub plan_in : Makings → ℕ → Plan
 plan_in f event = record {
@@ -54,7 +49,7 @@ plan_in f event = record {
   kind = kind_of f event;
   level = level_of f.p event;
   levels = levels f.p;
-  heard = heard_about f.p (level_of f.p event);
+  heard = record { idle = heard f.p 0; own = heard f.p (level_of f.p event); beneath = heard f.p (level_of f.p event - 1) };
   need = f.need;
   spread = f.spread;
   work = f.work event;
