@@ -2,7 +2,7 @@
 ghost use Rattle.std.specs.Prelude.{ℕ};
 ghost use Rattle.frp_tree.specs.Tree.{ProgramTree};
 ghost use Rattle.map_file.specs.declared.maps.Map.{Map as AnyMap};
-ghost use Rattle.firmware_layout.specs.Laws.{IsHeard, LayoutEnables, LayoutLevels};
+ghost use Rattle.firmware_layout.specs.Laws.{EachRunStands, IsHeard, LayoutEnables, LayoutLevels, LayoutPlaces, RunsLieApart, VectorOfCodeStands};
 ghost use Rattle.firmware_layout.specs.Pieces.{Makings};
 
 /// What is computed as heard at a level is heard there: the enables of the sources above it, and PEIE where one of them needs it.
@@ -18,4 +18,24 @@ pub fn layout_levels()
 /// At each level exactly the sources of the events above it are heard.
 pub fn layout_enables()
     ensures { (f : Makings) (program marks : ℕ → ℕ) (m : AnyMap) → LayoutEnables f program marks m }
+{}
+
+/// Each run stands from its entry to behind its return, and its marks are its places.
+pub fn each_run_stands()
+    ensures { (f : Makings) (program marks : ℕ → ℕ) (event : ℕ) → EachRunStands f program marks event }
+{}
+
+/// The head stands at address 0, and the rest of the boot at its mark.
+pub fn vector_of_code_stands()
+    ensures { (f : Makings) (program marks : ℕ → ℕ) → VectorOfCodeStands f program marks }
+{}
+
+/// Runs lie apart from each other, from the head and from the boot.
+pub fn runs_lie_apart()
+    ensures { (f : Makings) (program marks : ℕ → ℕ) (event : ℕ) → RunsLieApart f program marks event }
+{}
+
+/// Opens and commits are places at which one part alone runs a step, and those of the map.
+pub fn layout_places()
+    ensures { (f : Makings) (program marks : ℕ → ℕ) (m : AnyMap) → LayoutPlaces f program marks m }
 {}
