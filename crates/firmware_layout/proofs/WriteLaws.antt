@@ -1,8 +1,8 @@
 -- What parts may write: states in windows alone, frames of their own, enables and PCLATH where they have to, and listed registers.
-use Rattle.std.proofs.Common.{◌≡◌, ℕ, zero, suc, ◌+◌, ◌-◌, ◌<◌, ◌≤◌, ◌==◌, ◌&&◌, ◌||◌, Bool, true, false, not, if◌then◌else◌, Option, Some, None, List, [], ◌∷◌, ◌++◌, length, refl, sym, ap, ap₂, subst, ◌∙◌, arith, inl, inr}
+use Rattle.std.proofs.Common.{◌≡◌, ℕ, zero, suc, ◌+◌, ◌-◌, ◌<◌, ◌≤◌, ◌==◌, ◌&&◌, ◌||◌, Bool, true, false, not, if◌then◌else◌, nat_le, Option, Some, None, List, [], ◌∷◌, ◌++◌, length, refl, sym, ap, ap₂, subst, ◌∙◌, arith, inl, inr}
 use Rattle.std.specs.Prelude.{◌⊎◌, IfSome}
 use Rattle.std.specs.List.{AllByRecursion, list_all}
-use Rattle.std.proofs.lemmas.Bool.{and_parts, eq-eqb, eqb-true, or_cases}
+use Rattle.std.proofs.lemmas.Bool.{and_from, and_parts, eq-eqb, eqb-true, le-leb, leb-true, or_cases}
 use Rattle.std.proofs.lemmas.Option.{none-some, same_Some}
 use Rattle.frp_tree.specs.declared.syntax.Setup.{Setup}
 use Rattle.efrp_meaning.specs.Bounds.{levels, state_bytes}
@@ -11,10 +11,11 @@ use Rattle.pic_isa.specs.Names.{register_at, setup_registers}
 use Rattle.pic_isa.proofs.NameLaws.{register_all}
 use Rattle.pic_regs.specs.declared.places.Place.{Place}
 use Rattle.pic_regs.specs.declared.places.Place.TheVariants as place
-use Rattle.pic_regs.specs.Bytes.{Byte, bit_by_bit, bits, is_zero, num, zeros}
+use Rattle.pic_regs.specs.Bytes.{Byte, bit, bit_by_bit, bits, is_zero, num, zeros}
 use Rattle.pic_regs.specs.Map.{within}
 use Rattle.map_file.specs.declared.maps.Map.{Map}
 use Rattle.bank_alloc.specs.Addresses.{address_of}
+use Rattle.priority_masks.specs.declared.tables.Enables.{Enables}
 use Rattle.priority_masks.specs.Levels.{level_of}
 use Rattle.priority_masks.proofs.LevelLaws.{levels-rise}
 use Rattle.glue_parts.specs.declared.moves.Move.{Move}
@@ -432,3 +433,128 @@ set_up_named (s ∷ ss) a byte is = by (last_setup ss a) refl (set_up_named ss a
 
 pub setup_class : (ss : List Setup) (a byte : ℕ) → within 5 9 a ≡ false → last_setup ss a ≡ Some byte → class_of a ≡ 8
 setup_class ss a byte no_port is = let its = set_up_named ss a byte is in other_of a its.0 its.1 no_port
+
+-- A register of enables that isn't listed has no enable, so that no bit of it is cleared.
+no_change : (idle own : ℕ) → bits idle ≡ zeros → bits own ≡ zeros → is_changed (num (bit_by_bit (λ p q. if p then not q else q) (bits idle) (bits own))) ≡ false
+no_change idle own first second =
+    ap (λ x. is_changed (num (bit_by_bit (λ p q. if p then not q else q) x (bits own)))) first
+    ∙ ap (λ x. is_changed (num (bit_by_bit (λ p q. if p then not q else q) zeros x))) second
+
+pie1_of : (i o b : Enables) → bits i.pie1 ≡ zeros → bits o.pie1 ≡ zeros → is_changed (masks_of (record { idle = i; own = o; beneath = b })).pie1.cleared ≡ false
+pie1_of i o b first second = by (bit 6 (bits o.intcon)) refl
+  where
+    by : (c : Bool) → bit 6 (bits o.intcon) ≡ c → is_changed (masks_of (record { idle = i; own = o; beneath = b })).pie1.cleared ≡ false
+    by true is = rw is (no_change i.pie1 o.pie1 first second)
+    by false is = rw is refl
+
+pie2_of : (i o b : Enables) → bits i.pie2 ≡ zeros → bits o.pie2 ≡ zeros → is_changed (masks_of (record { idle = i; own = o; beneath = b })).pie2.cleared ≡ false
+pie2_of i o b first second = by (bit 6 (bits o.intcon)) refl
+  where
+    by : (c : Bool) → bit 6 (bits o.intcon) ≡ c → is_changed (masks_of (record { idle = i; own = o; beneath = b })).pie2.cleared ≡ false
+    by true is = rw is (no_change i.pie2 o.pie2 first second)
+    by false is = rw is refl
+
+module _ (f : Makings) (program marks : ℕ → ℕ) (m : Map) (made : AreMakings f) (lists : ListsWritten f m) where
+  pie1_in : (e : ℕ) → is_listed m 0x08C ≡ false → is_changed (masks_in (plan_in f e)).pie1.cleared ≡ false
+  pie1_in e none = by (is_short (kind_of f e)) refl
+    where
+      idle_none : bits (heard f.p 0).pie1 ≡ zeros
+      idle_none = lists.pie1 none 0 (heard f.p 0).pie1 (is_heard f.p 0).pie1
+
+      own_none : bits (heard f.p (level_of f.p e)).pie1 ≡ zeros
+      own_none = lists.pie1 none (level_of f.p e) (heard f.p (level_of f.p e)).pie1 (is_heard f.p (level_of f.p e)).pie1
+
+      by : (c : Bool) → is_short (kind_of f e) ≡ c → is_changed (masks_in (plan_in f e)).pie1.cleared ≡ false
+      by true is = rw is refl
+      by false is = rw is (pie1_of (heard f.p 0) (heard f.p (level_of f.p e)) (heard f.p (level_of f.p e - 1)) idle_none own_none)
+
+  pie2_in : (e : ℕ) → is_listed m 0x08D ≡ false → is_changed (masks_in (plan_in f e)).pie2.cleared ≡ false
+  pie2_in e none = by (is_short (kind_of f e)) refl
+    where
+      idle_none : bits (heard f.p 0).pie2 ≡ zeros
+      idle_none = lists.pie2 none 0 (heard f.p 0).pie2 (is_heard f.p 0).pie2
+
+      own_none : bits (heard f.p (level_of f.p e)).pie2 ≡ zeros
+      own_none = lists.pie2 none (level_of f.p e) (heard f.p (level_of f.p e)).pie2 (is_heard f.p (level_of f.p e)).pie2
+
+      by : (c : Bool) → is_short (kind_of f e) ≡ c → is_changed (masks_in (plan_in f e)).pie2.cleared ≡ false
+      by true is = rw is refl
+      by false is = rw is (pie2_of (heard f.p 0) (heard f.p (level_of f.p e)) (heard f.p (level_of f.p e - 1)) idle_none own_none)
+
+  -- What parts write is listed.
+  at_place : (a b : ℕ) → a ≡ b → is_listed m b ≡ true → is_listed m a ≡ true
+  at_place a b same listed = ap (λ k. is_listed m k) same ∙ listed
+
+  common_listed : (a : ℕ) → IsCommonSaved a → is_listed m a ≡ true
+  common_listed a (inl same) = at_place a 0x071 same (lists.common 0x071 refl)
+  common_listed a (inr same) = at_place a 0x072 same (lists.common 0x072 refl)
+
+  told_listed : (a : ℕ) → a ≡ 0x073 → is_listed m a ≡ true
+  told_listed a same = at_place a 0x073 same (lists.common 0x073 refl)
+
+  page_listed : (a : ℕ) → IsPageOf f a → is_listed m a ≡ true
+  page_listed a its = at_place a 0x00A its.1 (lists.pclath its.0)
+
+  unless : (b : Bool) (c : Bool) → (b ≡ false → c ≡ false) → c ≡ true → b ≡ true
+  unless true c never set = refl
+  unless false c never set = absurd (let off = never refl in cc)
+
+  masked_listed : (e a : ℕ) → MaskedTells (plan_in f e) a → is_listed m a ≡ true
+  masked_listed e a (inl its) = at_place a 0x00B its.0 lists.intcon
+  masked_listed e a (inr (inl its)) = at_place a 0x08C its.0 (unless (is_listed m 0x08C) (is_changed (masks_in (plan_in f e)).pie1.cleared) (pie1_in e) its.1)
+  masked_listed e a (inr (inr its)) = at_place a 0x08D its.0 (unless (is_listed m 0x08D) (is_changed (masks_in (plan_in f e)).pie2.cleared) (pie2_in e) its.1)
+
+  operand_listed : (a : ℕ) → within 0x074 0x07F a ≡ true → is_listed m a ≡ true
+  operand_listed a inside =
+      let both = and_parts (nat_le 0x074 a) (nat_le a 0x07F) inside in
+      let low = leb-true 0x074 a both.0 in
+      lists.common a (and_from (nat_le 0x071 a) (nat_le a 0x07F) (le-leb 0x071 a (omega (arith, low))) both.1)
+
+  work_listed : (e a : ℕ) → e < length f.p.events → IsWorkByte f e a → is_listed m a ≡ true
+  work_listed e a real (inl operand) = operand_listed a operand
+  work_listed e a real (inr scratch) = at_place a (address_of f.need scratch.0) scratch.3 (lists.cells e scratch.0 real scratch.2)
+
+  target_listed : (a : ℕ) → IsTarget f a → is_listed m a ≡ true
+  target_listed a (inl state) = at_place a (address_of f.need state.0) state.2 (lists.states state.0 state.1)
+  target_listed a (inr out) = at_place a (5 + out.port) out.is (lists.outputs out.number out.output out.port out.stands out.named)
+
+  part_listed : (part : Part) (a : ℕ) → IsPart (layout_with f program marks m) part → writes_in f (is_listed m) part a ≡ true → PartTells f part a → is_listed m a ≡ true
+  part_listed Boot a is allows tells = allows
+  part_listed Taking a is allows (inl its) = common_listed a its
+  part_listed Taking a is allows (inr its) = page_listed a its
+  part_listed (Start e) a is allows (inl its) = lists.frames e a (is_event f e is) its
+  part_listed (Start e) a is allows (inr (inl its)) = masked_listed e a its
+  part_listed (Start e) a is allows (inr (inr its)) = work_listed e a (is_event f e is) its
+  part_listed (Begin e) a is allows (inl its) = told_listed a its
+  part_listed (Begin e) a is allows (inr its) = page_listed a its
+  part_listed (Work e) a is allows (inl its) = work_listed e a (is_event f e is.0) its
+  part_listed (Work e) a is allows (inr its) = page_listed a its
+  part_listed (Lock e) a is allows its = page_listed a its
+  part_listed (Open e) a is allows its = target_listed a its
+  part_listed (Copying e) a is allows its = target_listed a its
+  part_listed (Commit e) a is allows (inl its) = target_listed a its
+  part_listed (Commit e) a is allows (inr its) = told_listed a its
+  part_listed (Exit e) a is allows (inl its) = masked_listed e a its
+  part_listed (Exit e) a is allows (inr its) = page_listed a its
+
+pub layout-writes : (f : Makings) (program marks : ℕ → ℕ) (m : Map) → LayoutWrites f program marks m
+layout-writes f program marks m made named =
+    let lists = named.lists in
+    record {
+      states = states_stay f program marks m made;
+      next = next_stays f program marks m made;
+      puts = puts_stay f program marks m made;
+      frames = frames_stay f program marks m made;
+      enables = λ part is leaves. (
+        bars f program marks m made part 0x00B 5 is refl (no_enables f program marks m made part leaves),
+        bars f program marks m made part 0x08C 5 is refl (no_enables f program marks m made part leaves),
+        bars f program marks m made part 0x08D 5 is refl (no_enables f program marks m made part leaves),
+      );
+      told = λ part is leaves. bars f program marks m made part 0x073 3 is refl (no_told f program marks m made part leaves);
+      page = λ part is leaves. bars f program marks m made part 0x00A 6 is refl (no_pages f program marks m made part leaves);
+      set_up = λ a byte no_port set part is other. bars f program marks m made part a 8 is (setup_class f.p.setups a byte no_port set) (no_setups f program marks m made part other);
+      listed = λ part a is allows. part_listed f program marks m made lists part a is allows (part_tells f program marks m made part a is allows);
+      status_listed = lists.status;
+      intcon_listed = lists.intcon;
+      flags_listed = λ e real. lists.flags e (is_event f e real);
+    }

@@ -2,7 +2,7 @@
 ghost use Rattle.std.specs.Prelude.{ℕ};
 ghost use Rattle.frp_tree.specs.Tree.{ProgramTree};
 ghost use Rattle.map_file.specs.declared.maps.Map.{Map as AnyMap};
-ghost use Rattle.firmware_layout.specs.Laws.{EachRunStands, IsHeard, LayoutEnables, LayoutLevels, LayoutPlaces, RunsLieApart, VectorOfCodeStands};
+ghost use Rattle.firmware_layout.specs.Laws.{EachRunStands, IsHeard, LayoutEnables, LayoutLevels, LayoutPlaces, LayoutWrites, RunsLieApart, VectorOfCodeStands};
 ghost use Rattle.firmware_layout.specs.Pieces.{Makings};
 
 /// What is computed as heard at a level is heard there: the enables of the sources above it, and PEIE where one of them needs it.
@@ -38,4 +38,9 @@ pub fn runs_lie_apart()
 /// Opens and commits are places at which one part alone runs a step, and those of the map.
 pub fn layout_places()
     ensures { (f : Makings) (program marks : ℕ → ℕ) (m : AnyMap) → LayoutPlaces f program marks m }
+{}
+
+/// Parts write states in windows alone, frames of their own, and nothing that isn't listed.
+pub fn layout_writes()
+    ensures { (f : Makings) (program marks : ℕ → ℕ) (m : AnyMap) → LayoutWrites f program marks m }
 {}
