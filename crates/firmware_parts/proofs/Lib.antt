@@ -1,2 +1,2 @@
-pub mod TimesFacts
+pub mod TimesLaws
 pub mod WholeLaws

@@ -1,4 +1,4 @@
-use Rattle.firmware_parts.proofs.TimesFacts.{times-quick, times-within}
+use Rattle.firmware_parts.proofs.TimesLaws.{times-quick, times-within}
 use Rattle.firmware_parts.proofs.laws.times_fit.Goals as goal
 
 pub returns-clause-within : goal.returns-clause-within
