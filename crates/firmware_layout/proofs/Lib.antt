@@ -8,5 +8,6 @@ pub mod PlaceLaws
 mod RangeFacts
 mod RunFacts
 pub mod StandLaws
+pub mod StateLaws
 mod WriteFacts
 pub mod WriteLaws

@@ -57,8 +57,8 @@ has_number (first ∷ pieces) piece (inr later) =
     let within = its.inside in record { number = suc its.number; inside = omega (arith, within); is = its.is }
 
 -- The pieces of code, with the boot before the runs or behind them; and their numbers.
-abbrev pub pieces_by : Bool → (head boot : List Item) → List (List Item) → List (List Item)
-pieces_by paged head boot runs = if paged then head ∷ boot ∷ runs else head ∷ (runs ++ boot ∷ [])
+abbrev pub pieces_by : Bool → (head boot filler : List Item) → List (List Item) → List (List Item)
+pieces_by paged head boot filler runs = if paged then head ∷ boot ∷ (runs ++ filler ∷ []) else head ∷ (runs ++ boot ∷ [])
 
 abbrev pub run_number : Bool → ℕ → ℕ
 run_number true i = suc (suc i)
@@ -77,44 +77,41 @@ last_piece : (xs : List (List Item)) (y : List Item) → piece_at (xs ++ y ∷ [
 last_piece [] y = refl
 last_piece (x ∷ xs) y = last_piece xs y
 
-module _ (head boot : List Item) (runs : List (List Item)) where
-  pub run_piece : (paged : Bool) (i : ℕ) → i < length runs → piece_at (pieces_by paged head boot runs) (run_number paged i) ≡ piece_at runs i
-  run_piece true i inside = refl
+module _ (head boot filler : List Item) (runs : List (List Item)) where
+  pub run_piece : (paged : Bool) (i : ℕ) → i < length runs → piece_at (pieces_by paged head boot filler runs) (run_number paged i) ≡ piece_at runs i
+  run_piece true i inside = front_piece runs (filler ∷ []) i inside
   run_piece false i inside = front_piece runs (boot ∷ []) i inside
 
-  pub boot_piece : (paged : Bool) → piece_at (pieces_by paged head boot runs) (boot_number paged (length runs)) ≡ boot
+  pub boot_piece : (paged : Bool) → piece_at (pieces_by paged head boot filler runs) (boot_number paged (length runs)) ≡ boot
   boot_piece true = refl
   boot_piece false = last_piece runs boot
 
-  pub head_piece : (paged : Bool) → piece_at (pieces_by paged head boot runs) 0 ≡ head
+  pub head_piece : (paged : Bool) → piece_at (pieces_by paged head boot filler runs) 0 ≡ head
   head_piece true = refl
   head_piece false = refl
 
-  pub piece_count : (paged : Bool) → length (pieces_by paged head boot runs) ≡ 2 + length runs
-  piece_count true = omega arith
-  piece_count false = let count = length-append runs (boot ∷ []) in omega (arith, count)
+  pub head_inside : (paged : Bool) → 0 < length (pieces_by paged head boot filler runs)
+  head_inside true = omega arith
+  head_inside false = omega arith
 
-  pub run_inside : (paged : Bool) (i : ℕ) → i < length runs → run_number paged i < 2 + length runs
-  run_inside true i inside = omega (arith, inside)
-  run_inside false i inside = omega (arith, inside)
+  pub run_inside : (paged : Bool) (i : ℕ) → i < length runs → run_number paged i < length (pieces_by paged head boot filler runs)
+  run_inside true i inside = let count = length-append runs (filler ∷ []) in omega (arith, count, inside)
+  run_inside false i inside = let count = length-append runs (boot ∷ []) in omega (arith, count, inside)
 
-  pub boot_inside : (paged : Bool) → boot_number paged (length runs) < 2 + length runs
+  pub boot_inside : (paged : Bool) → boot_number paged (length runs) < length (pieces_by paged head boot filler runs)
   boot_inside true = omega arith
-  boot_inside false = omega arith
+  boot_inside false = let count = length-append runs (boot ∷ []) in omega (arith, count)
 
-  -- None ends in a skip, where neither head nor boot does and no run.
-  none_skips_in : (xs : List (List Item)) → AllByRecursion (λ piece. ends_skipping false piece ≡ false) xs → ends_skipping false boot ≡ false → NoneSkips (xs ++ boot ∷ [])
-  none_skips_in [] all last = (last, tt)
-  none_skips_in (x ∷ xs) all last = (all.0, none_skips_in xs all.1 last)
+  -- None ends in a skip, where neither head, boot nor filler does and no run.
+  none_skips_in : (xs : List (List Item)) (last : List Item) → AllByRecursion (λ piece. ends_skipping false piece ≡ false) xs → ends_skipping false last ≡ false
+      → NoneSkips (xs ++ last ∷ [])
+  none_skips_in [] last all ends = (ends, tt)
+  none_skips_in (x ∷ xs) last all ends = (all.0, none_skips_in xs last all.1 ends)
 
-  none_skips_of : (xs : List (List Item)) → AllByRecursion (λ piece. ends_skipping false piece ≡ false) xs → NoneSkips xs
-  none_skips_of [] all = tt
-  none_skips_of (x ∷ xs) all = (all.0, none_skips_of xs all.1)
-
-  pub none_skips : (paged : Bool) → ends_skipping false head ≡ false → ends_skipping false boot ≡ false → AllByRecursion (λ piece. ends_skipping false piece ≡ false) runs
-      → NoneSkips (pieces_by paged head boot runs)
-  none_skips true first last all = (first, (last, none_skips_of runs all))
-  none_skips false first last all = (first, none_skips_in runs all last)
+  pub none_skips : (paged : Bool) → ends_skipping false head ≡ false → ends_skipping false boot ≡ false → ends_skipping false filler ≡ false
+      → AllByRecursion (λ piece. ends_skipping false piece ≡ false) runs → NoneSkips (pieces_by paged head boot filler runs)
+  none_skips true first boots fills all = (first, (boots, none_skips_in runs filler all fills))
+  none_skips false first boots fills all = (first, none_skips_in runs boot all boots)
 
 -- Numbers of runs differ from each other and from the boot's.
 pub run_numbers : (paged : Bool) (i j : ℕ) → run_number paged i ≡ run_number paged j → i ≡ j

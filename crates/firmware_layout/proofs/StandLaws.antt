@@ -1,14 +1,15 @@
 -- Where the pieces of firmware's code stand: each run from its mark on, with its marks at its places; the head and the boot; and apart.
-use Rattle.std.proofs.Common.{◌≡◌, ℕ, zero, suc, ◌+◌, ◌-◌, ◌%◌, ◌<◌, ◌≤◌, ◌==◌, Bool, true, false, List, [], ◌∷◌, ◌++◌, length, map, reverse, drop, refl, sym, ap, subst, ◌∙◌, arith, inl, inr}
+use Rattle.std.proofs.Common.{◌≡◌, ℕ, zero, suc, ◌+◌, ◌-◌, ◌%◌, ◌<◌, ◌≤◌, ◌==◌, Bool, true, false, List, [], ◌∷◌, ◌++◌, length, map, reverse, drop, refl, sym, ap, subst, ◌∙◌, arith, inl, inr, length-append, replicate}
 use Rattle.std.specs.Prelude.{◌⊎◌}
 use Rattle.std.specs.List.{AllByRecursion}
 use Rattle.std.proofs.lemmas.Bool.{cases_lt, ltb-false}
 use Rattle.std.proofs.lemmas.List.{reverse-append}
+use Rattle.pic_isa.specs.declared.instructions.Instr.TheVariants.{Nop}
 use Rattle.code_items.specs.declared.items.Item.{Item}
-use Rattle.code_items.specs.declared.items.Item.TheVariants.{Mark}
+use Rattle.code_items.specs.declared.items.Item.TheVariants.{Ins, Mark}
 use Rattle.code_items.specs.Items.{ends_skipping, words_in}
 use Rattle.code_items.specs.Lines.{Stands}
-use Rattle.code_items.specs.Places.{NoneSkips, base, piece_at}
+use Rattle.code_items.specs.Places.{NoneSkips, base, joined, piece_at}
 use Rattle.code_items.proofs.PieceLaws.{base-ends, base-next, base-rises, piece-stands}
 use Rattle.code_items.proofs.StandLaws.{stands-mark}
 use Rattle.glue_parts.specs.Marks.{Boot, Entry, Ready, mark}
@@ -22,10 +23,10 @@ use Rattle.isr_vector.proofs.UrgencyLaws.{all-are_events, all_events}
 use Rattle.firmware_layout.specs.Heard.{heard}
 use Rattle.firmware_layout.specs.Laws.{EachRunStands, IsApart, RunStands, RunsLieApart, VectorOfCodeStands, VectorStands}
 use Rattle.firmware_layout.specs.Layouts.{boot_start, boot_turn, head_end, spots_in}
-use Rattle.firmware_layout.specs.Pieces.{Makings, boot_of, head_of, items_of, lines_of_boot, pieces_of, plan_in, run_of, runs_of, taking_of}
+use Rattle.firmware_layout.specs.Pieces.{Makings, boot_of, filler_of, head_of, items_of, lines_of_boot, pieces_of, plan_in, run_of, runs_of, taking_of}
 use Rattle.firmware_layout.specs.Sound.{AreMakings, IsCodeIn}
 use Rattle.firmware_layout.proofs.HeadFacts.{before_ready, before_ready_ends, before_ready_words, boot_ends, boot_parts, boot_long, boot_words, goto, head_ends, head_words, taking_ends}
-use Rattle.firmware_layout.proofs.PieceFacts.{HasNumber, StandsIn, all_stand, boot_inside, boot_number, boot_piece, boot_positive, has_number, head_piece, in_map, in_reverse, none_skips, piece_count, pieces_by, run_inside, run_no_boot, run_number, run_numbers, run_piece, run_positive}
+use Rattle.firmware_layout.proofs.PieceFacts.{HasNumber, StandsIn, all_stand, boot_inside, boot_number, boot_piece, boot_positive, has_number, head_inside, head_piece, in_map, in_reverse, none_skips, pieces_by, run_inside, run_no_boot, run_number, run_numbers, run_piece, run_positive}
 use Rattle.firmware_layout.proofs.RunFacts.{WindowStands, run_ends, run_words, spots_rise, window_stands}
 
 spots_entry : (kind : Kind) (paged : Bool) (start : ℕ) (plan : Plan) → (spots_by kind paged start plan).entry ≡ start
@@ -40,6 +41,11 @@ entry_is f marks event = spots_entry (plan_in f event).kind f.spread.pages (mark
 all_made : {A B : Type 0} (P : B → Type 0) (g : A → B) → ((x : A) → P (g x)) → (xs : List A) → AllByRecursion P (map g xs)
 all_made P g each [] = tt
 all_made P g each (x ∷ xs) = (each x, all_made P g each xs)
+
+-- Lines that do nothing end in no skip.
+pauses_end : (n : ℕ) (held : Bool) → held ≡ false → ends_skipping held (replicate n (Ins Nop)) ≡ false
+pauses_end zero held none = none
+pauses_end (suc n) held none = pauses_end n false refl
 
 base-zero : (paged : Bool) (pieces : List (List Item)) → base paged pieces 0 ≡ 0
 base-zero paged [] = refl
@@ -66,13 +72,11 @@ module _ (f : Makings) (program marks : ℕ → ℕ) (made : AreMakings f) (code
 
   none : NoneSkips pieces
   none =
-      none_skips (head_of f) (boot_of f) (runs_of f) paged
+      none_skips (head_of f) (boot_of f) (filler_of f) (runs_of f) paged
       (head_ends paged (lines_of_boot f) (taking_of f) (taking_ends f.source (context_of f.p f.spread) paged (by_urgency f.p)))
       (boot_ends paged (lines_of_boot f) (taking_of f))
+      (pauses_end (2049 - words_in false (joined (head_of f ∷ boot_of f ∷ runs_of f))) false refl)
       (all_made (λ piece. ends_skipping false piece ≡ false) (run_of f) (λ event. run_ends (plan_in f event)) (reverse (by_urgency f.p)))
-
-  count : length pieces ≡ 2 + length (runs_of f)
-  count = piece_count (head_of f) (boot_of f) (runs_of f) paged
 
   below_total : (k : ℕ) → k ≤ length pieces → at k ≤ total
   below_total k inside = let top = base-ends paged pieces in let rise = base-rises paged pieces k (length pieces) inside in omega (arith, top, rise)
@@ -139,8 +143,8 @@ module _ (f : Makings) (program marks : ℕ → ℕ) (made : AreMakings f) (code
   run_is : (event : ℕ) → event < length f.p.events → (its : RunPiece event) → RunIs event (run_number paged its.number)
   run_is event real its =
       run_at event (run_number paged its.number) real
-      (let within = run_inside (head_of f) (boot_of f) (runs_of f) paged its.number its.inside in let all = count in omega (arith, within, all))
-      (run_piece (head_of f) (boot_of f) (runs_of f) paged its.number its.inside ∙ its.is)
+      (run_inside (head_of f) (boot_of f) (filler_of f) (runs_of f) paged its.number its.inside)
+      (run_piece (head_of f) (boot_of f) (filler_of f) (runs_of f) paged its.number its.inside ∙ its.is)
 
   short_total : paged ≡ false → total ≤ 2048
   short_total one =
@@ -190,9 +194,9 @@ module _ (f : Makings) (program marks : ℕ → ℕ) (made : AreMakings f) (code
   -- The vector.
   head_stands : PieceStands 0 (head_of f)
   head_stands =
-      let all = count in
       let words = head_long in
-      piece_stands 0 (head_of f) (omega (arith, all)) (head_piece (head_of f) (boot_of f) (runs_of f) paged) (omega (arith, words))
+      piece_stands 0 (head_of f) (head_inside (head_of f) (boot_of f) (filler_of f) (runs_of f) paged)
+      (head_piece (head_of f) (boot_of f) (filler_of f) (runs_of f) paged) (omega (arith, words))
 
   after_head : at 1 ≡ head_end f
   after_head =
@@ -203,10 +207,9 @@ module _ (f : Makings) (program marks : ℕ → ℕ) (made : AreMakings f) (code
 
   boot_stands : PieceStands (boot_number paged (length (runs_of f))) (boot_of f)
   boot_stands =
-      let within = boot_inside (head_of f) (boot_of f) (runs_of f) paged in
-      let all = count in
       let words = boot_length in
-      piece_stands (boot_number paged (length (runs_of f))) (boot_of f) (omega (arith, within, all)) (boot_piece (head_of f) (boot_of f) (runs_of f) paged) (omega (arith, words))
+      piece_stands (boot_number paged (length (runs_of f))) (boot_of f) (boot_inside (head_of f) (boot_of f) (filler_of f) (runs_of f) paged)
+      (boot_piece (head_of f) (boot_of f) (filler_of f) (runs_of f) paged) (omega (arith, words))
 
   boot_is : (boot_start marks ≡ at (boot_number paged (length (runs_of f)))) × (boot_turn f marks + 2 ≡ at (suc (boot_number paged (length (runs_of f)))))
   boot_is =
@@ -266,11 +269,11 @@ module _ (f : Makings) (program marks : ℕ → ℕ) (made : AreMakings f) (code
           (run_at least 1 real second.0 second.1).entry ∙ after_head
         where
           second_piece : (b : Bool) → b ≡ false → (piece : List Item) (others : List (List Item)) → runs_of f ≡ piece ∷ others
-              → (1 < length (pieces_by b (head_of f) (boot_of f) (runs_of f))) × (piece_at (pieces_by b (head_of f) (boot_of f) (runs_of f)) 1 ≡ piece)
+              → (1 < length (pieces_by b (head_of f) (boot_of f) (filler_of f) (runs_of f))) × (piece_at (pieces_by b (head_of f) (boot_of f) (filler_of f) (runs_of f)) 1 ≡ piece)
           second_piece true is piece others first = absurd (cc)
           second_piece false is piece others first =
               let second : piece_at (runs_of f ++ boot_of f ∷ []) 0 ≡ piece = ap (λ rs. piece_at (rs ++ boot_of f ∷ []) 0) first in
-              let many = piece_count (head_of f) (boot_of f) (runs_of f) false in (omega (arith, many), second)
+              let many = length-append (runs_of f) (boot_of f ∷ []) in (omega (arith, many), second)
 
           at_end : (P : ℕ → Type 0) (xs : List ℕ) (y : ℕ) → AllByRecursion P (xs ++ y ∷ []) → P y
           at_end P [] y all = all.0

@@ -26,11 +26,11 @@ use Rattle.firmware_promises.specs.Firmware.{is_at}
 use Rattle.scratch_commit.specs.declared.frames.Frame.{Frame}
 use Rattle.scratch_commit.specs.declared.kinds.Kind.{Kind}
 use Rattle.scratch_commit.specs.declared.kinds.Kind.TheVariants.{Short, Long, Bottom, Middle}
-use Rattle.scratch_commit.specs.Frames.{byte_of_frame, frame_of, is_between, is_over_runs, wanted}
+use Rattle.scratch_commit.specs.Frames.{byte_of_frame, frame_of, is_between, is_byte, is_in_frame, is_over_runs, wanted}
 use Rattle.scratch_commit.specs.Masks.{saved_of}
 use Rattle.scratch_commit.specs.Plans.{Plan, context_in, frame_in, is_short, masks_in}
 use Rattle.run_steps.specs.Spots.{is_locked}
-use Rattle.firmware_layout.specs.Layouts.{is_byte, is_changed, is_in_frame, is_masked, is_of_work, is_page, is_scratch, is_target}
+use Rattle.firmware_layout.specs.Layouts.{is_changed, is_masked, is_of_work, is_page, is_scratch, is_target}
 use Rattle.firmware_layout.specs.Pieces.{Makings, kind_of, plan_in}
 use Rattle.firmware_layout.specs.Sound.{AreMakings, IsMoveIn, IsOutput}
 use Rattle.firmware_layout.proofs.LevelLaws.{short_is_highest, unlocked_is_highest}

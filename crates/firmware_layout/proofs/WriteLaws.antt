@@ -22,6 +22,7 @@ use Rattle.glue_parts.specs.declared.moves.Move.{Move}
 use Rattle.glue_parts.specs.Moves.{after_move, after_moves, byte_from, put_to, puts_by, shown_at}
 use Rattle.firmware_promises.specs.MapNames.{is_listed}
 use Rattle.firmware_promises.specs.Setups.{last_setup, setup_byte}
+use Rattle.scratch_commit.specs.Frames.{is_in_frame}
 use Rattle.scratch_commit.specs.Masks.{masked, masks_of, no_masks}
 use Rattle.scratch_commit.specs.Plans.{frame_in, is_short, masks_in}
 use Rattle.firmware_parts.specs.Layout.{Layout, Part}
@@ -31,7 +32,7 @@ use Rattle.event_code.proofs.StateLaws.{state_in-same}
 use Rattle.code_story.specs.Arranged.{IsPart, Spares, WrittenBy, WritesAgree, is_boot_part, leaves_enables, leaves_page, leaves_states, leaves_told}
 use Rattle.firmware_layout.specs.Heard.{heard}
 use Rattle.firmware_layout.specs.Laws.{LayoutWrites, layout_with}
-use Rattle.firmware_layout.specs.Layouts.{event_level, has_lock, is_changed, is_in_frame, is_masked, is_of_work, is_page, is_target, writes_in}
+use Rattle.firmware_layout.specs.Layouts.{event_level, has_lock, is_changed, is_masked, is_of_work, is_page, is_target, writes_in}
 use Rattle.firmware_layout.specs.Pieces.{Makings, kind_of, plan_in}
 use Rattle.firmware_layout.specs.Sound.{AreMakings, IsMapIn, IsMoveIn, ListsWritten}
 use Rattle.firmware_layout.proofs.EventFacts.{is_event, level_few, level_inside}

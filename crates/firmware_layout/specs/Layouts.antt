@@ -2,8 +2,6 @@
 use Rattle.std.specs.Prelude.{ℕ, ◌+◌, ◌-◌, ◌==◌, Bool, false, not, nat_le, nat_lt, ◌&&◌, ◌||◌, if◌then◌else◌, Option, Some, None, List, length, drop}
 use Rattle.std.specs.List.{list_any, range_with_len}
 use Rattle.efrp_meaning.specs.Bounds.{state_bytes}
-use Rattle.pic_regs.specs.declared.places.Place.{Place}
-use Rattle.pic_regs.specs.declared.places.Place.TheVariants.{Plain}
 use Rattle.pic_regs.specs.Bytes.{Byte, bits, is_zero}
 use Rattle.pic_regs.specs.Map.{lowest, within}
 use Rattle.pic_regs.specs.Places.{reg_of}
@@ -14,7 +12,7 @@ use Rattle.glue_parts.specs.declared.moves.Move.{Move}
 use Rattle.glue_parts.specs.Marks.{Boot as BootMark, Entry, mark}
 use Rattle.glue_parts.specs.Moves.{puts_by}
 use Rattle.firmware_promises.specs.Firmware.{is_at}
-use Rattle.scratch_commit.specs.declared.frames.Frame.{Frame}
+use Rattle.scratch_commit.specs.Frames.{is_in_frame}
 use Rattle.scratch_commit.specs.Plans.{Plan, context_in, frame_in, is_short, masks_in, over_idle}
 use Rattle.run_steps.specs.Spots.{Spots, exit_bank, is_locked, open_bank, spots_of}
 use Rattle.isr_vector.specs.Taking.{context_of}
@@ -75,15 +73,6 @@ lies_in f marks (Open e) place = lies_in_run (spots_in f marks e) (has_lock f e)
 lies_in f marks (Copying e) place = lies_in_run (spots_in f marks e) (has_lock f e) (Copying e) place
 lies_in f marks (Commit e) place = lies_in_run (spots_in f marks e) (has_lock f e) (Commit e) place
 lies_in f marks (Exit e) place = lies_in_run (spots_in f marks e) (has_lock f e) (Exit e) place
-
--- The plain byte that a place is, and one of the places of a frame.
-abbrev pub is_byte : ℕ → Option Place → Bool
-is_byte address (Some (Plain a)) = a == address
-is_byte address _ = false
-
-abbrev pub is_in_frame : Frame → ℕ → Bool
-is_in_frame frame address =
-    is_byte address frame.status || is_byte address frame.pclath || is_byte address frame.intcon || is_byte address frame.pie1 || is_byte address frame.pie2
 
 -- A register of enables of which a run's masks clear a bit: these bits of it.
 abbrev pub is_changed : (cleared : ℕ) → Bool

@@ -1,12 +1,15 @@
 -- What firmware is made of, and the pieces of its code in order.
-use Rattle.std.specs.Prelude.{ℕ, ◌-◌, ◌==◌, Bool, nat_le, nat_lt, if◌then◌else◌, List, [], ◌∷◌, ◌++◌, length, map, reverse}
+use Rattle.std.specs.Prelude.{ℕ, ◌-◌, ◌==◌, Bool, false, nat_le, nat_lt, if◌then◌else◌, List, [], ◌∷◌, ◌++◌, length, map, replicate, reverse}
 use Rattle.frp_tree.specs.Tree.{ProgramTree}
 use Rattle.efrp_meaning.specs.Bounds.{levels}
+use Rattle.pic_isa.specs.declared.instructions.Instr.TheVariants.{Nop}
 use Rattle.pic_isa.specs.declared.sources.Source.{Source}
 use Rattle.bank_alloc.specs.declared.needs.Needs.{Needs}
 use Rattle.priority_masks.specs.Levels.{level_of}
 use Rattle.code_steps.specs.declared.banks.Bank.{Bank}
 use Rattle.code_items.specs.declared.items.Item.{Item}
+use Rattle.code_items.specs.declared.items.Item.TheVariants.{Ins}
+use Rattle.code_items.specs.Items.{words_in}
 use Rattle.code_items.specs.Places.{joined}
 use Rattle.glue_steps.specs.declared.lines.Line.{Line}
 use Rattle.glue_parts.specs.declared.moves.Move.{Move}
@@ -78,9 +81,15 @@ run_of f event = run_items (plan_in f event)
 abbrev pub runs_of : Makings → List (List Item)
 runs_of f = map (run_of f) (reverse (by_urgency f.p))
 
+-- Code of several pages has more than 2,048 instructions, so that it has page settings: where any are missing, NOPs fill up.
+abbrev pub filler_of : Makings → List Item
+filler_of f = replicate (2049 - words_in false (joined (head_of f ∷ boot_of f ∷ runs_of f))) (Ins Nop)
+
 -- On one page the least urgent run stands directly behind the taking, and the boot comes last; on several the boot comes first.
 abbrev pub pieces_of : Makings → List (List Item)
-pieces_of f = if f.spread.pages then head_of f ∷ boot_of f ∷ runs_of f else head_of f ∷ (runs_of f ++ boot_of f ∷ [])
+pieces_of f =
+    if f.spread.pages then head_of f ∷ boot_of f ∷ (runs_of f ++ filler_of f ∷ [])
+    else head_of f ∷ (runs_of f ++ boot_of f ∷ [])
 
 -- The items of all code.
 abbrev pub items_of : Makings → List Item

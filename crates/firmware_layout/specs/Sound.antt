@@ -24,10 +24,10 @@ use Rattle.glue_parts.specs.declared.moves.Move.{Move}
 use Rattle.glue_parts.specs.Marks.{mark, Committing, Opening, Ready}
 use Rattle.firmware_promises.specs.Firmware.{event_of}
 use Rattle.firmware_promises.specs.MapNames.{is_listed}
+use Rattle.scratch_commit.specs.Frames.{is_in_frame}
 use Rattle.scratch_commit.specs.Plans.{IsInstruction, frame_in}
 use Rattle.isr_vector.specs.Taking.{AreSources}
 use Rattle.event_code.specs.States.{states_of}
-use Rattle.firmware_layout.specs.Layouts.{is_in_frame}
 use Rattle.firmware_layout.specs.Pieces.{Makings, items_of, plan_in}
 
 -- A register is that of a cell below some number; or the port of one of the program's outputs.

@@ -1,8 +1,8 @@
 // Laws of the layout. Each is the contract of a function that does nothing.
-ghost use Rattle.std.specs.Prelude.{ℕ};
+ghost use Rattle.std.specs.Prelude.{ℕ, List as Items};
 ghost use Rattle.frp_tree.specs.Tree.{ProgramTree};
 ghost use Rattle.map_file.specs.declared.maps.Map.{Map as AnyMap};
-ghost use Rattle.firmware_layout.specs.Laws.{EachRunStands, IsHeard, LayoutEnables, LayoutLevels, LayoutPlaces, LayoutWrites, RunsLieApart, VectorOfCodeStands};
+ghost use Rattle.firmware_layout.specs.Laws.{EachRunStands, IsHeard, LayoutArranged, LayoutEnables, LayoutLevels, LayoutPlaces, LayoutStates, LayoutTimes, LayoutWrites, RunsLieApart, VectorOfCodeStands};
 ghost use Rattle.firmware_layout.specs.Pieces.{Makings};
 
 /// What is computed as heard at a level is heard there: the enables of the sources above it, and PEIE where one of them needs it.
@@ -43,4 +43,20 @@ pub fn layout_places()
 /// Parts write states in windows alone, frames of their own, and nothing that isn't listed.
 pub fn layout_writes()
     ensures { (f : Makings) (program marks : ℕ → ℕ) (m : AnyMap) → LayoutWrites f program marks m }
+{}
+
+/// The layout's states begin and go on as the program's, and are those that the map reads off the chip.
+pub fn layout_states()
+    ensures { (f : Makings) (program marks : ℕ → ℕ) (m : AnyMap) (initial : Items ℕ) → LayoutStates f program marks m initial }
+{}
+
+/// The times of the program's code fit the program and its map.
+pub fn layout_times()
+    ensures { (f : Makings) (marks : ℕ → ℕ) (m : AnyMap) → LayoutTimes f marks m }
+{}
+
+/// Code that is put together from such pieces, and stands in program memory, is arranged as its layout says, with the times of its
+/// program.
+pub fn layout_arranged()
+    ensures { (f : Makings) (program marks : ℕ → ℕ) (m : AnyMap) (initial : Items ℕ) → LayoutArranged f program marks m initial }
 {}
