@@ -1,5 +1,5 @@
 -- The lines of a window: the first one is quiet, and the last one stands apart.
-use Rattle.std.proofs.Common.{◌≡◌, ℕ, suc, ◌+◌, ◌/◌, ◌%◌, ◌==◌, Bool, true, false, if◌then◌else◌, Option, Some, None, List, [], ◌∷◌, ◌++◌, length, refl, sym, ap, subst, ◌∙◌, append_assoc}
+use Rattle.std.proofs.Common.{◌≡◌, ℕ, ◌/◌, ◌%◌, ◌==◌, Bool, true, false, if◌then◌else◌, Option, Some, None, List, [], ◌∷◌, ◌++◌, refl, sym, ap, subst, ◌∙◌, append_assoc}
 use Rattle.std.proofs.lemmas.List.{append-nil}
 use Rattle.std.specs.List.{AllByRecursion}
 use Rattle.pic_regs.specs.declared.places.Place.{Place}
@@ -143,7 +143,7 @@ pub record OfWindow (May Last : ℕ → Type 0) (lines : List Line) : Type 0 whe
 copy_lines : (May Last : ℕ → Type 0) (bank : Bank) (deed : Deed) → IsCopy deed → DeedStill Last deed → OfWindow May Last (lines_of bank deed)
 copy_lines May Last bank (Copy from to) copy still =
     let its = head_quiet (lines_for bank (bank_of (reg_of from))) (Load from) (lines_for (moved bank (bank_of (reg_of from))) (bank_of (reg_of to)))
-        (quiet_for bank (bank_of (reg_of from))) refl in
+    (quiet_for bank (bank_of (reg_of from))) refl in
     let are : lines_of bank (Copy from to) ≡ its.first ∷ (its.more ++ Store to ∷ []) = loading_is bank from to ∙ ap (λ lines. lines ++ Store to ∷ []) its.are in
     let quiet : AllQuiet (its.first ∷ its.more) = subst AllQuiet its.are (loading_quiet bank from to) in
     record {
@@ -170,13 +170,13 @@ window_lines May Last bank (deed ∷ front) last opening ending alone still ends
     let head = first_more (lines_of bank deed) (lines_in (bank_behind bank deed) front) (first_of bank deed opening.0) in
     let last_lines : lines_in behind (last ∷ []) ≡ shape.quiets ++ shape.last ∷ [] = append-nil (lines_of behind last) ∙ shape.are in
     let are : lines_in bank (all ++ last ∷ []) ≡ head.first ∷ ((head.more ++ shape.quiets) ++ shape.last ∷ []) =
-        lines_then bank all (last ∷ []) ∙ ap (λ lines. before ++ lines) last_lines ∙ ap (λ lines. lines ++ (shape.quiets ++ shape.last ∷ [])) head.are
-        ∙ ap (λ lines. head.first ∷ lines) (sym (append_assoc head.more shape.quiets (shape.last ∷ []))) in
+    lines_then bank all (last ∷ []) ∙ ap (λ lines. before ++ lines) last_lines ∙ ap (λ lines. lines ++ (shape.quiets ++ shape.last ∷ [])) head.are
+    ∙ ap (λ lines. head.first ∷ lines) (sym (append_assoc head.more shape.quiets (shape.last ∷ []))) in
     let plain_last : Plain (lines_in behind (last ∷ [])) =
-        subst Plain (sym (append-nil (lines_of behind last))) (shape_plain (lines_of behind last) shape) in
+    subst Plain (sym (append-nil (lines_of behind last))) (shape_plain (lines_of behind last) shape) in
     let plain_all : Plain (lines_in bank (all ++ last ∷ [])) =
-        subst Plain (sym (lines_then bank all (last ∷ [])))
-        (all_both (λ line. may_skip line ≡ false) before (lines_in behind (last ∷ [])) (plain_in bank all opening) plain_last) in
+    subst Plain (sym (lines_then bank all (last ∷ [])))
+    (all_both (λ line. may_skip line ≡ false) before (lines_in behind (last ∷ [])) (plain_in bank all opening) plain_last) in
     let still_before : StillLines May (head.first ∷ head.more) = subst (StillLines May) head.are (still_in May bank all still) in
     record {
       first = head.first;

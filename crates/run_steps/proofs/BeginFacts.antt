@@ -1,22 +1,16 @@
 -- From the clearing of a run's flag, or from the lock of void work, to the step that turns interrupts on; and from the lock to the open.
-use Rattle.std.proofs.Common.{◌≡◌, ℕ, suc, ◌+◌, ◌-◌, ◌*◌, ◌/◌, ◌%◌, ◌<◌, ◌≤◌, ◌==◌, Bool, true, false, not, ◌&&◌, if◌then◌else◌, Option, Some, None, List, [], ◌∷◌, ◌++◌, length, map, refl, sym, ap, subst, ◌∙◌, arith, inl, inr, lit<}
-use Rattle.std.specs.Prelude.{nat_lt, ◌⊎◌}
+use Rattle.std.proofs.Common.{◌≡◌, ℕ, ◌+◌, ◌/◌, ◌%◌, ◌<◌, ◌≤◌, true, false, if◌then◌else◌, List, [], ◌∷◌, ◌++◌, length, map, refl, sym, ap, subst, ◌∙◌, arith, inl, inr, lit<}
+use Rattle.std.specs.Prelude.{◌⊎◌}
 use Rattle.std.specs.List.{AllByRecursion}
 use Rattle.std.proofs.lemmas.Bool.{ne_eqb}
 use Rattle.std.proofs.lemmas.Bool.Decides.{eqb_tells}
-use Rattle.pic_isa.specs.declared.bits.TheConstants.{GIE}
-use Rattle.pic_isa.specs.declared.instructions.Instr.{Instr}
-use Rattle.pic_isa.specs.declared.instructions.Instr.TheVariants.{Btfsc}
 use Rattle.pic_regs.specs.declared.places.Place.TheVariants as place
 use Rattle.pic_regs.specs.Bytes.{Byte, zeros}
-use Rattle.pic_regs.specs.Map.{Intcon, Pclath, Plain, existing}
-use Rattle.pic_regs.specs.Registers.{Registers}
+use Rattle.pic_regs.specs.Map.{Pclath, existing}
 use Rattle.pic_machine.specs.Chip.{Chip}
-use Rattle.pic_machine.specs.Results.{Done}
 use Rattle.code_steps.specs.declared.banks.Bank.{Bank}
 use Rattle.code_steps.specs.declared.banks.Bank.TheVariants.{Known, Unknown}
 use Rattle.code_steps.specs.Steps.{next}
-use Rattle.code_steps.specs.Between.{Alone}
 use Rattle.code_steps.specs.Ends.{Between, Holds}
 use Rattle.code_steps.specs.Jumps.{Reaches, high_page, low_page, with_page}
 use Rattle.code_acts.specs.Standing.{StandFrom}
@@ -24,23 +18,19 @@ use Rattle.code_steps.proofs.JumpLaws.{reaches_first_page}
 use Rattle.glue_steps.specs.declared.lines.Line.{Line}
 use Rattle.glue_steps.specs.declared.lines.Line.TheVariants.{Clear}
 use Rattle.glue_steps.specs.Lines.{instr_of}
-use Rattle.glue_steps.specs.Stretches.{Banked, bits_of_bank, place_behind}
-use Rattle.glue_steps.specs.Laws.{StillIn}
-use Rattle.glue_steps.specs.Still.{Off, PlacesIn, Still}
-use Rattle.glue_steps.specs.Tells.{Tells, Withstands}
-use Rattle.glue_steps.proofs.StillLaws.{off_stays, places_between}
+use Rattle.glue_steps.specs.Stretches.{bits_of_bank, place_behind}
+use Rattle.glue_steps.specs.Still.{Off, PlacesIn}
+use Rattle.glue_steps.specs.Tells.{Withstands}
+use Rattle.glue_steps.proofs.StillLaws.{places_between}
 use Rattle.glue_steps.proofs.StraightLaws.{place-behind}
-use Rattle.glue_steps.proofs.TellsLaws.{tells_longer, tells_now}
 use Rattle.glue_parts.specs.declared.kept.TheConstants.{REDO}
-use Rattle.glue_parts.specs.Effects.{left}
-use Rattle.firmware_parts.specs.Layout.{Easy, Layout, Part, Usual, is_told, piece}
+use Rattle.firmware_parts.specs.Layout.{Easy, Layout, is_told}
 use Rattle.firmware_parts.specs.Layout.Part.{Begin}
-use Rattle.firmware_parts.specs.Runs.{AtOn, AtOpen, Leads}
-use Rattle.scratch_commit.specs.Deeds.{Deed, Choose, Write, bank_past, lines_in}
+use Rattle.firmware_parts.specs.Runs.{AtOn, Leads}
+use Rattle.scratch_commit.specs.Deeds.{Write, bank_past, lines_in}
 use Rattle.scratch_commit.specs.Effects.{DeedFits, effect_in}
-use Rattle.run_steps.specs.Deeds.{DeedStill}
 use Rattle.run_steps.specs.Spots.{restarting}
-use Rattle.run_steps.specs.Premises.{Inside, May, MayDo}
+use Rattle.run_steps.specs.Premises.{Inside, May}
 use Rattle.run_steps.proofs.StretchFacts.{Led, deeds_then, holds_of}
 use Rattle.run_steps.proofs.WorkFacts.{easy_same}
 
@@ -96,9 +86,9 @@ module _ (l : Layout) (e : ℕ) (marks : ℕ → ℕ) (bank : Bank) (again on : 
         bank = (ap (λ (x : Chip). x.regs.status.b6) r.only ∙ at.bank.0, ap (λ (x : Chip). x.regs.status.b5) r.only ∙ at.bank.1);
         untold = λ locked. ap (λ (x : Chip). is_told x) r.only ∙ at.untold locked;
         usual = λ locked. record {
-            easy = easy_same l c d (ap (λ (x : Chip). x.regs.pclath) r.only) (at.usual locked).easy;
-            bank = λ unsaved. (ap (λ (x : Chip). x.regs.status.b6) r.only ∙ ((at.usual locked).bank unsaved).0, ap (λ (x : Chip). x.regs.status.b5) r.only ∙ ((at.usual locked).bank unsaved).1);
-            page = λ unsaved. ap (λ (x : Chip). x.regs.pclath) r.only ∙ (at.usual locked).page unsaved;
+          easy = easy_same l c d (ap (λ (x : Chip). x.regs.pclath) r.only) (at.usual locked).easy;
+          bank = λ unsaved. (ap (λ (x : Chip). x.regs.status.b6) r.only ∙ ((at.usual locked).bank unsaved).0, ap (λ (x : Chip). x.regs.status.b5) r.only ∙ ((at.usual locked).bank unsaved).1);
+          page = λ unsaved. ap (λ (x : Chip). x.regs.pclath) r.only ∙ (at.usual locked).page unsaved;
         };
       }
 

@@ -1,12 +1,12 @@
 -- From the start of a run to the clearing of its flag, where its work comes later.
-use Rattle.std.proofs.Common.{◌≡◌, ℕ, suc, ◌+◌, ◌-◌, ◌*◌, ◌<◌, ◌≤◌, ◌==◌, Bool, true, false, not, ◌&&◌, if◌then◌else◌, Option, Some, None, List, [], ◌∷◌, ◌++◌, length, map, refl, sym, ap, subst, ◌∙◌, append_assoc, arith, lit<}
+use Rattle.std.proofs.Common.{◌≡◌, ℕ, ◌+◌, ◌<◌, ◌≤◌, Bool, true, false, ◌&&◌, if◌then◌else◌, List, [], ◌∷◌, ◌++◌, length, map, refl, sym, ap, subst, ◌∙◌, append_assoc, arith, lit<}
 use Rattle.std.specs.List.{AllByRecursion}
 use Rattle.std.specs.Option.{ForSome}
 use Rattle.frp_tree.specs.Tree.{ProgramTree}
 use Rattle.map_file.specs.declared.maps.Map.{Map}
 use Rattle.pic_regs.specs.declared.places.Place.{Place}
 use Rattle.pic_regs.specs.declared.places.Place.TheVariants as place
-use Rattle.pic_regs.specs.Bytes.{Byte, bits, bit, zeros}
+use Rattle.pic_regs.specs.Bytes.{Byte}
 use Rattle.pic_regs.specs.Places.{reg_of}
 use Rattle.pic_regs.specs.Registers.{Registers, read}
 use Rattle.pic_machine.specs.Chip.{Chip}
@@ -27,28 +27,28 @@ use Rattle.glue_steps.proofs.TellsLaws.{tells_longer}
 use Rattle.glue_parts.specs.declared.kept.TheConstants.{SAVED_PCLATH, SAVED_STATUS}
 use Rattle.glue_parts.specs.Effects.{left}
 use Rattle.glue_parts.specs.Kept.{frame_cell}
-use Rattle.firmware_parts.specs.Layout.{Easy, Layout, Usual, piece}
+use Rattle.firmware_parts.specs.Layout.{Layout, Usual, piece}
 use Rattle.firmware_parts.specs.Layout.Part.{Start}
 use Rattle.firmware_parts.specs.Contexts.{AtLevel, Entered}
 use Rattle.firmware_parts.specs.Runs.{AtClear, Leads, Reacts}
-use Rattle.scratch_commit.specs.Deeds.{Deed, Change, Choose, Copy, Make, bank_past, lines_in}
+use Rattle.scratch_commit.specs.Deeds.{Deed, Choose, bank_past, lines_in}
 use Rattle.scratch_commit.specs.Effects.{DeedFits, effect_in}
 use Rattle.scratch_commit.specs.Enables.{Hold, with_enables_of}
-use Rattle.scratch_commit.specs.Frames.{byte_of_frame, is_between, is_over_runs, saving, saving_context, saving_enables, wanted}
+use Rattle.scratch_commit.specs.Frames.{byte_of_frame, is_between, is_over_runs, saving, wanted}
 use Rattle.scratch_commit.specs.Laws.{HasEnableBits, Kept, masked_by}
 use Rattle.scratch_commit.specs.Masks.{masking, masks_of, no_masks, saved_of}
 use Rattle.scratch_commit.specs.Plans.{Plan, context_in, frame_in, is_short, masks_in}
-use Rattle.scratch_commit.proofs.DeedLaws.{all_both, lines_then as lines_both}
+use Rattle.scratch_commit.proofs.DeedLaws.{lines_then as lines_both}
 use Rattle.scratch_commit.proofs.EnableLaws.{masks_lead}
 use Rattle.run_steps.specs.Deeds.{DeedStill}
 use Rattle.run_steps.specs.Premises.{IsFrameIn, IsPlanOf, MayDo}
 use Rattle.run_steps.specs.Saved.{HasBank, Idle, SavedBy, masked_in}
 use Rattle.run_steps.specs.Spots.{entering_in}
-use Rattle.run_steps.proofs.EnterFacts.{Quiet, bytes_kept, copies_all, copies_bank, copies_leave, copy_fits, last_all, last_bank, last_deeds, last_leave, masking_all, pclath_copied, pie1_quiet, pie1_stored, pie2_quiet, pie2_stored, quiet_in, saved_bytes, status_copied, two_copies}
+use Rattle.run_steps.proofs.EnterFacts.{Quiet, bytes_kept, copies_all, copies_bank, copies_leave, copy_fits, last_all, last_bank, last_deeds, last_leave, masking_all, pclath_copied, pie1_quiet, pie1_stored, pie2_quiet, pie2_stored, quiet_in, saved_bytes, status_copied}
 use Rattle.run_steps.proofs.ExitFacts.{all_split, regs_left}
 use Rattle.run_steps.proofs.FrameFacts.{HasFrame, IsLow, bytes_differ, here_stored, low_byte, other_kept, saved_bank, stored_if, wanted_is}
 use Rattle.run_steps.proofs.ReturnFacts.{are_heard, has_frame, hold_of}
-use Rattle.run_steps.proofs.SavedFacts.{Enabled, saved_alone, with_enabled}
+use Rattle.run_steps.proofs.SavedFacts.{saved_alone, with_enabled}
 use Rattle.run_steps.proofs.StartFacts.{entering_then}
 use Rattle.run_steps.proofs.StretchFacts.{holds_of}
 use Rattle.run_steps.proofs.WorkFacts.{easy_same}
@@ -217,11 +217,11 @@ module _ (p : ProgramTree) (m : Map) (l : Layout) (plans : ℕ → Plan) (e : �
 
     same_enables : (y : Byte) → saved_as y ≡ with_enables_of x.regs (saved_as y)
     same_enables y = sym (with_enabled x.regs (saved_as y) (record {
-        peie = sym entered.enables.peie ∙ sym (ap (λ (r : Registers). r.intcon.b6) kr_is);
-        t0ie = sym entered.enables.t0ie ∙ sym (ap (λ (r : Registers). r.intcon.b5) kr_is);
-        inte = sym entered.enables.inte ∙ sym (ap (λ (r : Registers). r.intcon.b4) kr_is);
-        pie1 = sym entered.enables.pie1 ∙ sym (ap (λ (r : Registers). r.pie1) kr_is);
-        pie2 = sym entered.enables.pie2 ∙ sym (ap (λ (r : Registers). r.pie2) kr_is);
+      peie = sym entered.enables.peie ∙ sym (ap (λ (r : Registers). r.intcon.b6) kr_is);
+      t0ie = sym entered.enables.t0ie ∙ sym (ap (λ (r : Registers). r.intcon.b5) kr_is);
+      inte = sym entered.enables.inte ∙ sym (ap (λ (r : Registers). r.intcon.b4) kr_is);
+      pie1 = sym entered.enables.pie1 ∙ sym (ap (λ (r : Registers). r.pie1) kr_is);
+      pie2 = sym entered.enables.pie2 ∙ sym (ap (λ (r : Registers). r.pie2) kr_is);
     }))
 
     leaves : (y : Byte) → (effect_in C).change (saved_as y) ≡ behind y
@@ -332,17 +332,18 @@ module _ (p : ProgramTree) (m : Map) (l : Layout) (plans : ℕ → Plan) (e : �
           pclath = context_by (λ z. z ≡ x.regs.pclath) has_page (is_between plan.kind) (at_byte 2) 0x072 page_kept;
         };
         masked = λ is. record {
-            peie = ap (λ (r : Registers). r.intcon.b6) regs ∙ held.peie;
-            t0ie = ap (λ (r : Registers). r.intcon.b5) regs ∙ held.t0ie;
-            inte = ap (λ (r : Registers). r.intcon.b4) regs ∙ held.inte;
-            rbie = ap (λ (r : Registers). r.intcon.b3) regs ∙ ap (λ (r : Registers). r.intcon.b3) kr_is ∙ rbie;
-            pie1 = λ set. ap (λ (r : Registers). r.pie1) regs ∙ held.pie1 (sym held.peie ∙ sym (ap (λ (r : Registers). r.intcon.b6) regs) ∙ set);
-            pie2 = λ set. ap (λ (r : Registers). r.pie2) regs ∙ held.pie2 (sym held.peie ∙ sym (ap (λ (r : Registers). r.intcon.b6) regs) ∙ set);
+          peie = ap (λ (r : Registers). r.intcon.b6) regs ∙ held.peie;
+          t0ie = ap (λ (r : Registers). r.intcon.b5) regs ∙ held.t0ie;
+          inte = ap (λ (r : Registers). r.intcon.b4) regs ∙ held.inte;
+          rbie = ap (λ (r : Registers). r.intcon.b3) regs ∙ ap (λ (r : Registers). r.intcon.b3) kr_is ∙ rbie;
+          pie1 = λ set. ap (λ (r : Registers). r.pie1) regs ∙ held.pie1 (sym held.peie ∙ sym (ap (λ (r : Registers). r.intcon.b6) regs) ∙ set);
+          pie2 = λ set. ap (λ (r : Registers). r.pie2) regs ∙ held.pie2 (sym held.peie ∙ sym (ap (λ (r : Registers). r.intcon.b6) regs) ∙ set);
         };
         bank = λ is. banked;
         done = λ short. absurd (let none : true ≡ false = sym short ∙ its.short ∙ long in cc);
         open_bank = λ short. absurd (let none : true ≡ false = sym short ∙ its.short ∙ long in cc);
       }
+
     -- The whole way.
     module _ (k : ℕ) (stand : StandFrom l.program (l.entry e) (map instr_of (lines_in (Known 0) (entering_in plan))))
         (places : PlacesIn (λ q. l.inside (Start e) q ≡ true) (l.entry e) (lines_in (Known 0) (entering_in plan))) (may : MayDo l (Start e) (entering_in plan))
@@ -361,6 +362,8 @@ module _ (p : ProgramTree) (m : Map) (l : Layout) (plans : ℕ → Plan) (e : �
           (entering_then l.program In May Q (clear_stays p m l plans e framed x) K C t3 (at_byte 3) (low 3 (lit< tt)) its_copied.fits fits_last still.0 still_rest.1
           (may_intcon May t3 (at_byte 3) still_rest.0) its_copied.bank its_copied.only (quiet_in K its_copied.quiet) (quiet_in C quiet_last) c entered.bank off (l.entry e) 0 [] at
           (subst (λ (xs : List Line). StandFrom l.program (l.entry e) (map instr_of xs)) lines_apart stand) (subst (PlacesIn In (l.entry e)) lines_apart places)
-          (λ y d come.
-          (refl, arrived y d come.saved come.only (come.there ∙ ap (place_behind (l.entry e)) (sym lines_apart) ∙ clear)
-          (subst (λ (b : Bank). Holds b d) (last_bank plan.need plan.level has t4 t5 plan (Known 0)) (holds_of (bank_past (Known 0) C) d come.banked)) come.gie)))
+          (λ y d come. (
+            refl,
+            arrived y d come.saved come.only (come.there ∙ ap (place_behind (l.entry e)) (sym lines_apart) ∙ clear)
+                (subst (λ (b : Bank). Holds b d) (last_bank plan.need plan.level has t4 t5 plan (Known 0)) (holds_of (bank_past (Known 0) C) d come.banked)) come.gie,
+          )))

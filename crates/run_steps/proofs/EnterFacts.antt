@@ -1,38 +1,32 @@
 -- The deeds of a run before the clearing of its flag: they fit, and what they leave.
-use Rattle.std.proofs.Common.{◌≡◌, ℕ, zero, suc, ◌+◌, ◌-◌, ◌*◌, ◌<◌, ◌≤◌, ◌==◌, Bool, true, false, not, ◌&&◌, if◌then◌else◌, Option, Some, None, List, [], ◌∷◌, ◌++◌, length, map, refl, sym, ap, subst, ◌∙◌, append_assoc, arith, lit<, lit≤}
+use Rattle.std.proofs.Common.{◌≡◌, ℕ, Bool, true, false, if◌then◌else◌, Option, Some, None, List, [], ◌∷◌, ◌++◌, refl, ap, ◌∙◌, arith, lit<}
 use Rattle.std.specs.List.{AllByRecursion}
-use Rattle.std.specs.Option.{ForSome}
 use Rattle.pic_isa.specs.declared.bits.TheConstants.{INTE, PEIE, T0IE}
 use Rattle.pic_regs.specs.declared.places.Place.{Place}
 use Rattle.pic_regs.specs.declared.places.Place.TheVariants as place
 use Rattle.pic_regs.specs.Bytes.{Byte, bits, bit, is_zero}
-use Rattle.pic_regs.specs.Map.{Reg, Intcon, Pie1, Pie2, Plain}
+use Rattle.pic_regs.specs.Map.{Pie1, Pie2}
 use Rattle.pic_regs.specs.Places.{reg_of}
-use Rattle.pic_regs.specs.Registers.{Registers, read}
-use Rattle.pic_machine.specs.declared.steps.PortWrite.{PortWrite}
+use Rattle.pic_regs.specs.Registers.{Registers}
 use Rattle.bank_alloc.specs.declared.needs.Needs.{Needs}
 use Rattle.bank_alloc.specs.Addresses.{address_of}
 use Rattle.code_steps.specs.declared.banks.Bank.{Bank}
 use Rattle.code_steps.specs.declared.banks.Bank.TheVariants.{Known}
 use Rattle.glue_parts.specs.declared.kept.TheConstants.{SAVED_PCLATH, SAVED_STATUS}
-use Rattle.glue_parts.specs.declared.spread.Context.{Context}
-use Rattle.glue_parts.specs.Effects.{Effect, change_made, none}
+use Rattle.glue_parts.specs.Effects.{change_made, none}
 use Rattle.glue_parts.specs.Kept.{frame_cell}
 use Rattle.glue_parts.specs.Pieces.{only_bit}
 use Rattle.glue_parts.specs.Places.{IsNumbered, may_be_read}
-use Rattle.scratch_commit.specs.declared.frames.Frame.{Frame}
-use Rattle.scratch_commit.specs.declared.kinds.Kind.{Kind}
-use Rattle.scratch_commit.specs.declared.kinds.Kind.TheVariants.{Short, Long, Bottom, Middle}
-use Rattle.scratch_commit.specs.Deeds.{Deed, Change, Choose, Copy, Make, bank_past, lines_in}
+use Rattle.scratch_commit.specs.Deeds.{Deed, Change, Choose, Copy, Make, bank_past}
 use Rattle.scratch_commit.specs.Effects.{DeedFits, effect_in, effect_of}
-use Rattle.scratch_commit.specs.Frames.{byte_of_frame, frame_of, is_over_runs, saving, saving_context, wanted}
+use Rattle.scratch_commit.specs.Frames.{saving, wanted}
 use Rattle.scratch_commit.specs.Masks.{mask_bit, masking}
 use Rattle.scratch_commit.specs.Plans.{Plan, masks_in}
 use Rattle.scratch_commit.proofs.DeedLaws.{all_both, bank_then}
 use Rattle.scratch_commit.specs.Enables.{with_enables_of}
 use Rattle.scratch_commit.proofs.EffectLaws.{effect_then}
 use Rattle.scratch_commit.proofs.EnableLaws.{masking_blind}
-use Rattle.run_steps.proofs.FrameFacts.{HasFrame, IsLow, bytes_differ, here_stored, low_byte, low_numbered, other_kept, saved_bank, saving_leaves, stored_if, wanted_is}
+use Rattle.run_steps.proofs.FrameFacts.{HasFrame, IsLow, bytes_differ, here_stored, low_byte, low_numbered, other_kept, saved_bank, saving_leaves, stored_if}
 
 -- Deeds that put nothing on a port.
 abbrev pub Quiet : Deed → Type 0

@@ -1,5 +1,5 @@
 -- From the commit of a run to its return, with the context of what it interrupted.
-use Rattle.std.proofs.Common.{◌≡◌, ℕ, suc, ◌+◌, ◌/◌, ◌%◌, ◌<◌, ◌≤◌, ◌==◌, Bool, true, false, not, ◌&&◌, if◌then◌else◌, Option, Some, None, List, [], ◌∷◌, ◌++◌, length, map, refl, sym, ap, subst, ◌∙◌, append_assoc, arith}
+use Rattle.std.proofs.Common.{◌≡◌, ℕ, ◌+◌, ◌≤◌, Bool, true, false, not, ◌&&◌, if◌then◌else◌, Option, List, [], ◌∷◌, ◌++◌, length, map, refl, sym, ap, subst, ◌∙◌, append_assoc, arith}
 use Rattle.std.proofs.lemmas.Bool.{and_parts}
 use Rattle.std.proofs.lemmas.List.{append-nil, length-append}
 use Rattle.std.specs.List.{AllByRecursion}
@@ -12,11 +12,9 @@ use Rattle.pic_regs.specs.Places.{reg_of}
 use Rattle.pic_regs.specs.Registers.{Registers, read}
 use Rattle.pic_machine.specs.declared.steps.PortWrite.{PortWrite}
 use Rattle.pic_machine.specs.Chip.{Chip}
-use Rattle.pic_machine.specs.Results.{Done}
 use Rattle.code_steps.specs.declared.banks.Bank.{Bank}
 use Rattle.code_steps.specs.declared.banks.Bank.TheVariants.{Known}
 use Rattle.code_steps.specs.Steps.{next}
-use Rattle.code_steps.specs.Between.{Alone}
 use Rattle.code_steps.specs.Ends.{Holds}
 use Rattle.code_acts.specs.Codes.{moved}
 use Rattle.code_acts.specs.Standing.{StandFrom}
@@ -25,7 +23,7 @@ use Rattle.glue_steps.specs.declared.lines.Line.TheVariants.{Load, Store}
 use Rattle.glue_steps.specs.Lines.{instr_of, is_steady}
 use Rattle.glue_steps.specs.Stretches.{Fits, bits_of_bank, place_behind, ran_all}
 use Rattle.glue_steps.specs.Laws.{StillIn}
-use Rattle.glue_steps.specs.Still.{Off, PlacesIn, Still, StillLines}
+use Rattle.glue_steps.specs.Still.{Off, PlacesIn, Still}
 use Rattle.glue_steps.specs.Tells.{Tells, Withstands}
 use Rattle.glue_steps.proofs.StillLaws.{still_parts}
 use Rattle.glue_steps.proofs.StraightLaws.{ran_place}
@@ -38,9 +36,8 @@ use Rattle.glue_parts.specs.Places.{bank_of, is_status}
 use Rattle.glue_parts.proofs.MakeLaws.{makes_bank, reached}
 use Rattle.firmware_parts.specs.Layout.{Easy, Layout, piece}
 use Rattle.firmware_parts.specs.Layout.Part.{Exit}
-use Rattle.firmware_parts.specs.Contexts.{Back, SameEnables}
 use Rattle.firmware_parts.specs.Runs.{AtReturn, Leads}
-use Rattle.scratch_commit.specs.Deeds.{Deed, Choose, Copy, bank_past, lines_in}
+use Rattle.scratch_commit.specs.Deeds.{Deed, Choose, bank_past, lines_in}
 use Rattle.scratch_commit.specs.Effects.{effect_in}
 use Rattle.scratch_commit.specs.Enables.{with_enables_of}
 use Rattle.scratch_commit.specs.Frames.{bringing, byte_of_frame, is_between, is_over_runs, unmasking, wanted}
@@ -53,7 +50,7 @@ use Rattle.run_steps.specs.Spots.{exit_bank, returning_in}
 use Rattle.run_steps.proofs.EnterFacts.{quiet_in}
 use Rattle.run_steps.proofs.ReturnFacts.{BehindPage, bank_zero, enabled, frame_read, front_deeds, front_fits, front_leaves, front_quiet}
 use Rattle.run_steps.proofs.StartFacts.{behind_both, places_split, stand_split}
-use Rattle.run_steps.proofs.StretchFacts.{Led, banked_of, deeds_then, holds_of, lines_then, still_for}
+use Rattle.run_steps.proofs.StretchFacts.{banked_of, deeds_then, holds_of, lines_then, still_for}
 
 -- What holds of all deeds of two lists holds of those of each.
 pub all_split : {A : Type 0} (P : A → Type 0) (xs ys : List A) → AllByRecursion P (xs ++ ys) → AllByRecursion P xs × AllByRecursion P ys
@@ -126,7 +123,7 @@ module _ (p : ProgramTree) (l : Layout) (e : ℕ) (plan : Plan) (its : IsPlanOf 
   context : (d : Chip) → Given d → d.regs.status.b6 ≡ x.regs.status.b6 → d.regs.status.b5 ≡ x.regs.status.b5 → l.program d.pc ≡ 0x0009 → AtReturn l x d
   context d given rp1 rp0 word =
       let all : d.regs ≡ record (record (with_enables_of x.regs c.regs) { pclath = given.r.pclath }) { status = d.regs.status } =
-          given.regs ∙ ap (λ (r : Registers). record r { status = d.regs.status }) given.page.rest in
+      given.regs ∙ ap (λ (r : Registers). record r { status = d.regs.status }) given.page.rest in
       record {
         word = word;
         back = record {
@@ -210,7 +207,7 @@ module _ (p : ProgramTree) (l : Layout) (e : ℕ) (plan : Plan) (its : IsPlanOf 
         let still = all_split (DeedStill May) front last (subst (AllByRecursion (DeedStill May)) (returning_apart plan) may) in
         let behind = behind_both (next (l.commits e)) (lines_in from front) (lines_in to last) in
         let word_there : l.program (place_behind (place_behind (next (l.commits e)) (lines_in from front)) (lines_in to last)) ≡ 0x0009 =
-            ap l.program (sym behind ∙ ap (place_behind (next (l.commits e))) (sym are)) ∙ word in
+        ap l.program (sym behind ∙ ap (place_behind (next (l.commits e))) (sym are)) ∙ word in
         let words = length-append (lines_in from front) (lines_in to last) in
         let all = ap (λ (xs : List Line). length xs) are in
         let count : length (lines_in from front) + length (lines_in to last) ≤ k = omega (arith, words, all, enough) in

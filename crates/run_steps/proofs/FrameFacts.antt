@@ -1,29 +1,27 @@
 -- The bytes of a run's frame: they exist, lie in bank 0 or in each bank, and differ; and what saving and bringing back leave.
-use Rattle.std.proofs.Common.{◌≡◌, ℕ, zero, suc, ◌+◌, ◌-◌, ◌*◌, ◌/◌, ◌%◌, ◌<◌, ◌≤◌, ◌==◌, Bool, true, false, not, ◌&&◌, ◌||◌, if◌then◌else◌, Option, Some, None, List, [], ◌∷◌, ◌++◌, refl, sym, ap, subst, ◌∙◌, arith, lit<, lit≤, inl, inr}
+use Rattle.std.proofs.Common.{◌≡◌, ℕ, ◌/◌, ◌%◌, ◌<◌, ◌≤◌, ◌==◌, Bool, true, false, if◌then◌else◌, Some, None, refl, ap, ◌∙◌, arith, inl, inr}
 use Rattle.std.specs.Prelude.{nat_lt, ◌⊎◌}
-use Rattle.std.specs.List.{AllByRecursion}
 use Rattle.std.proofs.lemmas.Bool.Decides.{eqb_tells}
 use Rattle.std.proofs.Common.{lt-ltb}
 use Rattle.pic_regs.specs.declared.places.Place.{Place}
 use Rattle.pic_regs.specs.declared.places.Place.TheVariants as place
 use Rattle.pic_regs.specs.Bytes.{Byte, updated}
-use Rattle.pic_regs.specs.Map.{Reg, Intcon, Pie1, Pie2, Plain, reg_at}
+use Rattle.pic_regs.specs.Map.{Plain, reg_at}
 use Rattle.pic_regs.specs.Places.{reg_of}
 use Rattle.pic_regs.specs.Registers.{Registers, read}
 use Rattle.bank_alloc.specs.declared.needs.Needs.{Needs}
 use Rattle.bank_alloc.specs.Needs.{bytes_of}
-use Rattle.bank_alloc.specs.Addresses.{address_of, is_general}
+use Rattle.bank_alloc.specs.Addresses.{address_of}
 use Rattle.bank_alloc.proofs.AddressLaws.{general-plain}
 use Rattle.code_steps.specs.declared.banks.Bank.{Bank}
 use Rattle.code_steps.specs.declared.banks.Bank.TheVariants.{Known}
 use Rattle.code_acts.specs.Codes.{moved}
 use Rattle.glue_parts.specs.Kept.{frame_cell}
 use Rattle.glue_parts.specs.Places.{bank_of, IsNumbered}
-use Rattle.glue_parts.specs.Pieces.{bank_copied}
 use Rattle.glue_parts.proofs.FrameLaws.{frame-lies, frames-differ}
-use Rattle.scratch_commit.specs.Deeds.{Deed, Copy, bank_past, lines_in}
-use Rattle.scratch_commit.specs.Effects.{DeedFits, effect_in}
-use Rattle.scratch_commit.specs.Frames.{byte_of_frame, saving, wanted}
+use Rattle.scratch_commit.specs.Deeds.{bank_past}
+use Rattle.scratch_commit.specs.Effects.{effect_in}
+use Rattle.scratch_commit.specs.Frames.{saving, wanted}
 
 -- What holds of a level that has a frame.
 pub record HasFrame (need : Needs) (level : ℕ) : Type 0 where

@@ -1,10 +1,8 @@
 -- The lock of a run with interrupts off: on to the open, or back to where the work begins again.
-use Rattle.std.proofs.Common.{◌≡◌, ℕ, suc, ◌+◌, ◌-◌, ◌*◌, ◌/◌, ◌%◌, ◌<◌, ◌≤◌, ◌==◌, Bool, true, false, not, if◌then◌else◌, Option, Some, None, List, [], ◌∷◌, ◌++◌, length, map, refl, sym, ap, subst, ◌∙◌, arith, inl, inr, lit≤, lit<}
-use Rattle.pic_isa.specs.declared.instructions.Instr.{Instr}
+use Rattle.std.proofs.Common.{◌≡◌, ℕ, ◌+◌, ◌%◌, ◌<◌, ◌≤◌, ◌==◌, Bool, true, false, not, if◌then◌else◌, List, [], ◌∷◌, refl, ap, subst, ◌∙◌, arith, lit≤}
 use Rattle.pic_isa.specs.declared.instructions.Instr.TheVariants.{Btfsc, Goto}
-use Rattle.pic_regs.specs.Bytes.{Byte, zeros}
-use Rattle.pic_regs.specs.Map.{Intcon, Pclath, Plain, existing}
-use Rattle.pic_machine.specs.declared.steps.PortWrite.{PortWrite}
+use Rattle.pic_regs.specs.Bytes.{Byte}
+use Rattle.pic_regs.specs.Map.{Intcon, Plain}
 use Rattle.pic_machine.specs.Chip.{Chip}
 use Rattle.pic_machine.specs.Results.{Done}
 use Rattle.code_steps.specs.declared.banks.Bank.{Bank}
@@ -12,12 +10,11 @@ use Rattle.code_steps.specs.declared.banks.Bank.TheVariants.{Known, Unknown}
 use Rattle.code_steps.specs.Steps.{Is, next}
 use Rattle.code_steps.specs.Between.{Alone, placed_at}
 use Rattle.code_steps.specs.Ends.{Between, Holds}
-use Rattle.code_steps.specs.Jumps.{IsTest, Reaches, arrives, clear_in, high_page, low_page, setting, with_page}
-use Rattle.code_steps.proofs.BetweenLaws.{alone_others, holds_stays}
+use Rattle.code_steps.specs.Jumps.{Reaches, arrives, clear_in, high_page, low_page, setting, with_page}
 use Rattle.code_steps.proofs.JumpLaws.{Passes, PassesSettings, tests_clear_common, tests_clear_intcon}
 use Rattle.code_items.specs.declared.items.Item.{Item}
 use Rattle.code_items.specs.declared.items.Item.TheVariants.{Ins, Jump}
-use Rattle.code_items.specs.Items.{words_in, words_of_item}
+use Rattle.code_items.specs.Items.{words_of_item}
 use Rattle.code_items.specs.Jumping.{at_skip}
 use Rattle.code_items.specs.Lines.{Stands}
 use Rattle.code_items.proofs.StandLaws.{stands-parts}
@@ -27,11 +24,11 @@ use Rattle.glue_steps.specs.Still.{Off, Still}
 use Rattle.glue_steps.specs.Tells.{Given, Tells, Withstands}
 use Rattle.glue_steps.proofs.JumpLaws.{skip_told}
 use Rattle.glue_steps.proofs.StillLaws.{no_return, off_stays, still_off, still_passes, still_settings, still_wider}
-use Rattle.glue_steps.proofs.TellsLaws.{tells_given, tells_longer, tells_then, tells_wider}
+use Rattle.glue_steps.proofs.TellsLaws.{tells_given, tells_longer, tells_wider}
 use Rattle.firmware_parts.specs.Layout.{Easy, Layout, Part, is_told, piece}
-use Rattle.firmware_parts.specs.Runs.{AtOpen, Leads}
+use Rattle.firmware_parts.specs.Runs.{Leads}
 use Rattle.run_steps.proofs.BeginFacts.{easy_paged, first_page, first_reaches}
-use Rattle.run_steps.proofs.SkipFacts.{holds_placed, page_behind, skip_over, steps_over, words_over}
+use Rattle.run_steps.proofs.SkipFacts.{page_behind, skip_over, steps_over, words_over}
 use Rattle.run_steps.proofs.WorkFacts.{easy_same}
 
 -- The two tests of a lock, in a part of the code.
@@ -90,14 +87,20 @@ module _ (l : Layout) (of : Part) (marks : ℕ → ℕ) (lock again start stop q
 
   within : (paged : Bool) (p r m f b : ℕ) (more : List Item) → Stands paged l.program marks p (Ins (Btfsc f b) ∷ Jump m ∷ more) r → start ≤ p → p + words_over paged ≤ stop
       → SkipWithin In paged p m (Btfsc f b)
-  within false p r m f b more at_it from to =
-      (word p (no_return l.program p (Btfsc f b) at_it.0 refl) from (omega arith),
-      (word (next p) (no_return l.program (next p) (Goto (marks m % 2048)) at_it.1.0 refl) (omega arith) (omega arith), tt))
-  within true p r m f b more at_it from to =
-      (page_word p 3 (low_page (marks m)) at_it.0 from (omega arith),
-      (page_word (next p) 4 (high_page (marks m)) at_it.1.0 (omega arith) (omega arith),
-      (word (next (next p)) (no_return l.program (next (next p)) (Btfsc f b) at_it.1.1.0 refl) (omega arith) (omega arith),
-      (word (next (next (next p))) (no_return l.program (next (next (next p))) (Goto (marks m % 2048)) at_it.1.1.1.0 refl) (omega arith) (omega arith), tt))))
+  within false p r m f b more at_it from to = (
+    word p (no_return l.program p (Btfsc f b) at_it.0 refl) from (omega arith),
+    (word (next p) (no_return l.program (next p) (Goto (marks m % 2048)) at_it.1.0 refl) (omega arith) (omega arith), tt),
+  )
+  within true p r m f b more at_it from to = (
+    page_word p 3 (low_page (marks m)) at_it.0 from (omega arith),
+    (
+      page_word (next p) 4 (high_page (marks m)) at_it.1.0 (omega arith) (omega arith),
+      (
+        word (next (next p)) (no_return l.program (next (next p)) (Btfsc f b) at_it.1.1.0 refl) (omega arith) (omega arith),
+        (word (next (next (next p))) (no_return l.program (next (next (next p))) (Goto (marks m % 2048)) at_it.1.1.1.0 refl) (omega arith) (omega arith), tt),
+      ),
+    ),
+  )
 
   -- The second test stands behind the first.
   abbrev second_items : List Item
@@ -189,9 +192,9 @@ module _ (l : Layout) (of : Part) (marks : ℕ → ℕ) (lock again start stop q
         back on its easy_first =
             let there = arrives (marks again) on in
             let easy_on : Easy l on = easy_same l (placed_at on.pc (page_behind l.paged (marks again) behind_first.regs.pclath) behind_first) on its.page
-                (easy_behind l.paged refl (marks again) on.pc behind_first easy_first) in
+            (easy_behind l.paged refl (marks again) on.pc behind_first easy_first) in
             let easy_there : Easy l there =
-                easy_paged l (marks again) on there refl (λ short. first_page (marks again) on.regs.pclath (let low = few short in omega (arith, near_again, low)) (easy_on.page short)) easy_on in
+            easy_paged l (marks again) on there refl (λ short. first_page (marks again) on.regs.pclath (let low = few short in omega (arith, near_again, low)) (easy_on.page short)) easy_on in
             let off_there : Off there = its.gie ∙ off in
             tells_wider l.program (StillIn l.program (piece l of)) Step Q Q narrow (λ d q. q) [] n there
             (goes there refl off_there easy_there (record { there = refl; page = refl; gie = its.gie; told = its.told; rp1 = its.rp1; rp0 = its.rp0 }))

@@ -1,30 +1,23 @@
 -- The lock of a run: on to the open, back to the work, or, where an interrupt came late, back to the lock.
-use Rattle.std.proofs.Common.{◌≡◌, ℕ, suc, ◌+◌, ◌-◌, ◌*◌, ◌/◌, ◌%◌, ◌<◌, ◌≤◌, ◌==◌, Bool, true, false, not, if◌then◌else◌, Option, Some, None, List, [], ◌∷◌, ◌++◌, length, map, refl, sym, ap, subst, ◌∙◌, arith, inl, inr, lit≤, lit<}
-use Rattle.pic_isa.specs.declared.bits.TheConstants.{GIE}
-use Rattle.pic_isa.specs.declared.instructions.Instr.{Instr}
+use Rattle.std.proofs.Common.{◌≡◌, ℕ, ◌+◌, ◌%◌, ◌<◌, ◌≤◌, Bool, true, false, not, if◌then◌else◌, Some, List, ◌∷◌, refl, sym, ap, subst, ◌∙◌, arith, inl, inr, lit≤}
 use Rattle.pic_isa.specs.declared.instructions.Instr.TheVariants.{Btfsc, Goto}
-use Rattle.pic_regs.specs.declared.places.Place.TheVariants as place
 use Rattle.pic_regs.specs.Bytes.{Byte, zeros}
-use Rattle.pic_regs.specs.Map.{Intcon, Pclath, Plain, existing}
+use Rattle.pic_regs.specs.Map.{Pclath, existing}
 use Rattle.pic_machine.specs.Chip.{Chip, advanced, skipping}
-use Rattle.pic_machine.specs.Results.{Done, leaves}
-use Rattle.code_steps.specs.declared.banks.Bank.{Bank}
-use Rattle.code_steps.specs.Steps.{Comes, Is, next, own}
-use Rattle.code_steps.specs.Between.{Alone, Others, placed_at}
+use Rattle.pic_machine.specs.Results.{leaves}
+use Rattle.code_steps.specs.Steps.{Is, next, own}
 use Rattle.code_steps.specs.Ends.{Between, Holds}
-use Rattle.code_steps.specs.Jumps.{IsTest, Reaches, arrives, clear_in, high_page, low_page, setting, with_page}
+use Rattle.code_steps.specs.Jumps.{Reaches, high_page, low_page, setting}
 use Rattle.code_steps.proofs.BetweenLaws.{holds_stays}
 use Rattle.code_steps.proofs.ComesLaws.{comes_longer, own_is}
-use Rattle.code_steps.proofs.JumpLaws.{goes_to, goto_arrives, sets, tests_clear_common, tests_clear_intcon}
+use Rattle.code_steps.proofs.JumpLaws.{goes_to, goto_arrives, sets, tests_clear_intcon}
 use Rattle.code_items.specs.declared.items.Item.{Item}
 use Rattle.code_items.specs.declared.items.Item.TheVariants.{Ins, Jump}
-use Rattle.code_items.specs.Items.{words_of_item}
 use Rattle.code_items.specs.Lines.{Stands}
-use Rattle.glue_steps.specs.Still.{Off}
-use Rattle.firmware_parts.specs.Layout.{Easy, Layout, Usual}
+use Rattle.firmware_parts.specs.Layout.{Layout, Usual}
 use Rattle.firmware_parts.specs.Layout.Part.{Work}
 use Rattle.firmware_parts.specs.Runs.{AtLock, Returned, Void, WorkStep}
-use Rattle.run_steps.proofs.BeginFacts.{easy_paged, first_page, first_reaches}
+use Rattle.run_steps.proofs.BeginFacts.{first_reaches}
 use Rattle.run_steps.proofs.SkipFacts.{holds_placed, sets_high, sets_low}
 use Rattle.run_steps.proofs.WorkFacts.{easy_same, no_return_in}
 
@@ -55,9 +48,9 @@ module _ (l : Layout) (e start stop : ℕ) (inside : (place : ℕ) → Between s
     kept = refl;
     easy = λ easy. record { whole = whole easy.whole; page = λ short. absurd (cc) };
     usual = λ locked usual. record {
-        easy = record { whole = whole usual.easy.whole; page = λ short. absurd (cc) };
-        bank = usual.bank;
-        page = λ unsaved. let saved = saves locked in absurd (cc);
+      easy = record { whole = whole usual.easy.whole; page = λ short. absurd (cc) };
+      bank = usual.bank;
+      page = λ unsaved. let saved = saves locked in absurd (cc);
     };
     plain = λ address. inl refl;
     wrote = inr may;

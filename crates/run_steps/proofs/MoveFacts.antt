@@ -1,19 +1,16 @@
 -- What the moves of a window leave in the plain bytes and put on ports; and its deeds, the last one apart.
-use Rattle.std.proofs.Common.{◌≡◌, ℕ, suc, ◌+◌, ◌<◌, ◌==◌, Bool, true, false, not, ◌&&◌, ◌||◌, if◌then◌else◌, Option, Some, None, List, [], ◌∷◌, ◌++◌, length, map, refl, sym, ap, ap₂, subst, ◌∙◌, append_assoc, arith, lit<}
-use Rattle.std.proofs.lemmas.List.{append-nil, map-append}
-use Rattle.std.specs.List.{AllByRecursion, cons_option}
+use Rattle.std.proofs.Common.{◌≡◌, ℕ, Bool, true, false, not, ◌||◌, if◌then◌else◌, List, [], ◌∷◌, ◌++◌, refl, sym, ap, ap₂, subst, ◌∙◌, append_assoc, lit<}
+use Rattle.std.proofs.lemmas.List.{append-nil}
+use Rattle.std.specs.List.{AllByRecursion}
 use Rattle.pic_regs.specs.declared.places.Place.{Place}
 use Rattle.pic_regs.specs.declared.places.Place.TheVariants as place
-use Rattle.pic_regs.specs.Bytes.{Byte, num, updated, with_bit}
-use Rattle.pic_regs.specs.Map.{Plain}
+use Rattle.pic_regs.specs.Bytes.{Byte, updated, with_bit}
 use Rattle.pic_regs.specs.Places.{reg_of}
 use Rattle.pic_regs.specs.Registers.{Registers, read}
-use Rattle.pic_machine.specs.declared.steps.PortWrite.{PortWrite}
-use Rattle.pic_machine.specs.Results.{shown}
 use Rattle.glue_parts.specs.declared.kept.TheConstants.{REDO}
 use Rattle.glue_parts.specs.declared.moves.Move.{Move}
 use Rattle.glue_parts.specs.Moves.{after_move, after_moves, byte_from, put_to, puts_by, shown_at}
-use Rattle.glue_parts.specs.Places.{is_status, may_be_written}
+use Rattle.glue_parts.specs.Places.{is_status}
 use Rattle.firmware_parts.specs.Layout.{Layout}
 use Rattle.scratch_commit.specs.Deeds.{Deed, Copy, Make, Pause}
 use Rattle.scratch_commit.specs.Effects.{DeedFits, effect_in, effect_of}
@@ -167,8 +164,8 @@ window_apart (move ∷ moves) false = subst LastApart (sym (append-nil (copying 
 move_fits : (move : Move) → MoveFits move → DeedFits (Copy move.from move.to)
 move_fits move fits =
     let read_from : (p : Place) → p ≡ place.Plain fits.address → DeedFits (Copy p move.to) =
-        λ p is. subst (λ q. DeedFits (Copy q move.to)) (sym is)
-        ((fits.below, fits.there), fits.numbered, refl, ap (λ b. b || is_status (reg_of move.to)) fits.written) in
+    λ p is. subst (λ q. DeedFits (Copy q move.to)) (sym is)
+    ((fits.below, fits.there), fits.numbered, refl, ap (λ b. b || is_status (reg_of move.to)) fits.written) in
     read_from move.from fits.from
 
 moves_fit : (moves : List Move) → AllByRecursion MoveFits moves → AllByRecursion DeedFits (copying moves)

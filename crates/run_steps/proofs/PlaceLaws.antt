@@ -1,8 +1,7 @@
 -- Where the parts of a run stand: deeds, single lines, work, window.
-use Rattle.std.proofs.Common.{◌≡◌, ℕ, zero, suc, ◌+◌, ◌-◌, ◌/◌, ◌%◌, ◌<◌, ◌≤◌, ◌==◌, Bool, true, false, if◌then◌else◌, Option, Some, None, List, [], ◌∷◌, ◌++◌, length, map, refl, sym, ap, subst, ◌∙◌, append_assoc, arith}
+use Rattle.std.proofs.Common.{◌≡◌, ℕ, suc, ◌+◌, ◌/◌, ◌%◌, ◌<◌, ◌≤◌, ◌==◌, Bool, true, false, if◌then◌else◌, Option, Some, None, List, [], ◌∷◌, ◌++◌, length, map, refl, ap, subst, ◌∙◌, append_assoc, arith}
 use Rattle.std.proofs.lemmas.List.{append-nil, map-append}
 use Rattle.std.specs.List.{AllByRecursion}
-use Rattle.pic_isa.specs.declared.instructions.Instr.{Instr}
 use Rattle.pic_regs.specs.declared.places.Place.{Place}
 use Rattle.pic_regs.specs.declared.places.Place.TheVariants as place
 use Rattle.pic_regs.specs.Bytes.{bits, bit, is_zero}
@@ -20,17 +19,16 @@ use Rattle.code_acts.proofs.PartLaws.{stand_of_items}
 use Rattle.code_items.specs.declared.items.Item.{Item}
 use Rattle.code_items.specs.declared.items.Item.TheVariants.{Ins, Mark, Jump}
 use Rattle.code_items.specs.Items.{ends_skipping, is_skip, words_in}
-use Rattle.code_items.specs.Items.{skips as skips_item}
 use Rattle.code_items.specs.Lines.{Stands}
 use Rattle.code_items.proofs.ItemLaws.{ends-append}
 use Rattle.code_items.proofs.StandLaws.{behind, stands-parts}
 use Rattle.glue_steps.specs.declared.lines.Line.{Line}
-use Rattle.glue_steps.specs.declared.lines.Line.TheVariants.{Constant, Load, Store, Clear, Bit, Lower, Skip, Nothing}
+use Rattle.glue_steps.specs.declared.lines.Line.TheVariants.{Constant, Load, Store, Clear, Bit, Lower, Skip}
 use Rattle.glue_steps.specs.Lines.{instr_of, item_of}
 use Rattle.glue_steps.specs.Stretches.{may_skip}
 use Rattle.glue_steps.proofs.StraightLaws.{words_of_lines}
 use Rattle.glue_parts.specs.Places.{bank_of}
-use Rattle.glue_parts.specs.Pieces.{knows, bit_lines, is_known, lines_to_choose, lines_for, writing, lines_to_write, lines_of_change, only_bit, bank_of_flag}
+use Rattle.glue_parts.specs.Pieces.{knows, bit_lines, is_known, lines_for, writing, lines_of_change, only_bit, bank_of_flag}
 use Rattle.glue_parts.specs.declared.kept.TheConstants.{REDO}
 use Rattle.glue_parts.specs.Marks.{mark, Again, Lock}
 use Rattle.scratch_commit.specs.declared.kinds.Kind.{Kind}
@@ -226,7 +224,7 @@ module _ (plan : Plan) (rest : List Item) where
   locked_is : is_locked plan.kind ≡ true → working plan.kind plan.event plan.source (masks_in plan) (frame_in plan) plan.work plan.bank ++ rest ≡ locked_parts
   locked_is locked =
       let begin : glue plan.bank beginning ≡ glue plan.bank restarting ++ item_of (Bit true place.Intcon GIE) ∷ [] =
-          ap (map item_of) (lines_then plan.bank restarting (Make true place.Intcon GIE ∷ [])) ∙ map-append item_of (lines_in plan.bank restarting) (Bit true place.Intcon GIE ∷ []) in
+      ap (map item_of) (lines_then plan.bank restarting (Make true place.Intcon GIE ∷ [])) ∙ map-append item_of (lines_in plan.bank restarting) (Bit true place.Intcon GIE ∷ []) in
       ap (λ items. items ++ rest)
       (locked_apart plan plan.kind locked
       ∙ ap (λ start. locked_items plan.event start plan.work plan.bank) (starting_items plan)

@@ -1,6 +1,5 @@
 -- The deeds of a run behind its commit: they fit, put nothing, and leave the enables and PCLATH of what was interrupted.
-use Rattle.std.proofs.Common.{◌≡◌, ℕ, zero, suc, ◌+◌, ◌-◌, ◌*◌, ◌/◌, ◌%◌, ◌<◌, ◌≤◌, ◌==◌, Bool, true, false, not, ◌&&◌, ◌||◌, if◌then◌else◌, Option, Some, None, List, [], ◌∷◌, ◌++◌, length, map, refl, sym, ap, subst, ◌∙◌, append_assoc, arith, lit<, lit≤, inl, inr}
-use Rattle.std.specs.Prelude.{nat_lt, ◌⊎◌}
+use Rattle.std.proofs.Common.{◌≡◌, ℕ, ◌-◌, ◌<◌, ◌≤◌, ◌==◌, Bool, true, false, ◌&&◌, ◌||◌, if◌then◌else◌, Option, Some, None, List, [], ◌∷◌, ◌++◌, refl, sym, ap, subst, ◌∙◌, arith, lit<, inl, inr}
 use Rattle.std.specs.List.{AllByRecursion}
 use Rattle.std.specs.Option.{ForSome}
 use Rattle.std.proofs.Common.{lt-ltb}
@@ -10,26 +9,24 @@ use Rattle.pic_isa.specs.declared.bits.TheConstants.{INTE, PEIE, T0IE}
 use Rattle.pic_regs.specs.declared.places.Place.{Place}
 use Rattle.pic_regs.specs.declared.places.Place.TheVariants as place
 use Rattle.pic_regs.specs.Bytes.{Byte, bits, bit, zeros}
-use Rattle.pic_regs.specs.Map.{Pclath, Pie1, Pie2, Intcon, Plain, existing, over}
+use Rattle.pic_regs.specs.Map.{Pclath, Intcon, existing, over}
 use Rattle.pic_regs.specs.Places.{reg_of}
 use Rattle.pic_regs.specs.Registers.{Registers, read}
 use Rattle.pic_machine.specs.Chip.{Chip}
-use Rattle.bank_alloc.specs.declared.needs.Needs.{Needs}
 use Rattle.bank_alloc.specs.Addresses.{address_of}
-use Rattle.priority_masks.specs.declared.tables.Enables.{Enables}
 use Rattle.code_steps.specs.declared.banks.Bank.TheVariants.{Known}
 use Rattle.code_steps.specs.Ends.{Holds}
 use Rattle.glue_parts.specs.declared.kept.TheConstants.{SAVED_PCLATH}
 use Rattle.glue_parts.specs.Heard.{IsHeardAt}
 use Rattle.glue_parts.specs.Kept.{frame_cell}
 use Rattle.glue_parts.specs.Places.{IsNumbered, may_be_changed, may_be_read}
-use Rattle.firmware_parts.specs.Layout.{Easy, Layout, Usual}
+use Rattle.firmware_parts.specs.Layout.{Easy, Layout}
 use Rattle.firmware_parts.specs.Contexts.{AtLevel}
 use Rattle.scratch_commit.specs.declared.frames.Frame.{Frame}
 use Rattle.scratch_commit.specs.declared.kinds.Kind.{Kind}
 use Rattle.scratch_commit.specs.declared.kinds.Kind.TheVariants.{Short, Long, Bottom, Middle}
-use Rattle.scratch_commit.specs.Deeds.{Deed, Change, Choose, Copy, Make, SetIf, Write}
-use Rattle.scratch_commit.specs.Effects.{DeedFits, effect_in, effect_of}
+use Rattle.scratch_commit.specs.Deeds.{Deed}
+use Rattle.scratch_commit.specs.Effects.{DeedFits, effect_in}
 use Rattle.scratch_commit.specs.Enables.{Hold, with_enables_of}
 use Rattle.scratch_commit.specs.Frames.{bringing, byte_of_frame, frame_of, is_between, is_over_runs, unmasking, wanted}
 use Rattle.scratch_commit.specs.Laws.{Kept}
@@ -39,7 +36,7 @@ use Rattle.scratch_commit.proofs.DeedLaws.{all_both}
 use Rattle.scratch_commit.proofs.EffectLaws.{effect_then}
 use Rattle.scratch_commit.proofs.EnableLaws.{unmasks}
 use Rattle.run_steps.specs.Premises.{IsPlanOf}
-use Rattle.run_steps.specs.Saved.{Idle, SavedBy, masked_in}
+use Rattle.run_steps.specs.Saved.{SavedBy}
 use Rattle.run_steps.proofs.EnterFacts.{Quiet, pie1_quiet, pie2_quiet}
 use Rattle.run_steps.proofs.FrameFacts.{HasFrame, low_byte, low_numbered, wanted_is}
 
@@ -86,11 +83,15 @@ pub record FrameRead (frame : Frame) : Type 0 where
 
 pub front_fits : (plan : Plan) → FrameRead (frame_in plan) → AllByRecursion DeedFits (front_deeds plan)
 front_fits plan may =
-    all_both DeedFits (unmasking (masks_in plan) (frame_in plan)) (clearing_page (plan.spread.pages && over_idle plan) ++ bringing place.Pclath (frame_in plan).pclath)
-    (register_1 plan (frame_in plan).pie1 may.pie1, (register_2 plan (frame_in plan).pie2 may.pie2,
-    all_both DeedFits (unmask_bit T0IE (masks_in plan).intcon (frame_in plan).intcon) _ (bit_fits (bit T0IE (bits (masks_in plan).intcon.cleared)) (bit T0IE (bits (masks_in plan).intcon.beneath)) 5 (frame_in plan).intcon refl may.intcon)
-    (all_both DeedFits (unmask_bit INTE (masks_in plan).intcon (frame_in plan).intcon) _ (bit_fits (bit INTE (bits (masks_in plan).intcon.cleared)) (bit INTE (bits (masks_in plan).intcon.beneath)) 4 (frame_in plan).intcon refl may.intcon)
-    (bit_fits (bit PEIE (bits (masks_in plan).intcon.cleared)) (bit PEIE (bits (masks_in plan).intcon.beneath)) 6 (frame_in plan).intcon refl may.intcon))))
+    all_both DeedFits (unmasking (masks_in plan) (frame_in plan)) (clearing_page (plan.spread.pages && over_idle plan) ++ bringing place.Pclath (frame_in plan).pclath) (
+      register_1 plan (frame_in plan).pie1 may.pie1,
+      (
+        register_2 plan (frame_in plan).pie2 may.pie2,
+        all_both DeedFits (unmask_bit T0IE (masks_in plan).intcon (frame_in plan).intcon) _ (bit_fits (bit T0IE (bits (masks_in plan).intcon.cleared)) (bit T0IE (bits (masks_in plan).intcon.beneath)) 5 (frame_in plan).intcon refl may.intcon)
+            (all_both DeedFits (unmask_bit INTE (masks_in plan).intcon (frame_in plan).intcon) _ (bit_fits (bit INTE (bits (masks_in plan).intcon.cleared)) (bit INTE (bits (masks_in plan).intcon.beneath)) 4 (frame_in plan).intcon refl may.intcon)
+            (bit_fits (bit PEIE (bits (masks_in plan).intcon.cleared)) (bit PEIE (bits (masks_in plan).intcon.beneath)) 6 (frame_in plan).intcon refl may.intcon)),
+      ),
+    )
     (all_both DeedFits (clearing_page (plan.spread.pages && over_idle plan)) (bringing place.Pclath (frame_in plan).pclath)
     (clearing_fits (plan.spread.pages && over_idle plan)) (bringing_fits (frame_in plan).pclath may.pclath))
 
@@ -122,11 +123,15 @@ clearing_quiet false = tt
 
 pub front_quiet : (plan : Plan) → AllByRecursion Quiet (front_deeds plan)
 front_quiet plan =
-    all_both Quiet (unmasking (masks_in plan) (frame_in plan)) (clearing_page (plan.spread.pages && over_idle plan) ++ bringing place.Pclath (frame_in plan).pclath)
-    (quiet_1 plan (frame_in plan).pie1, (quiet_2 plan (frame_in plan).pie2,
-    all_both Quiet (unmask_bit T0IE (masks_in plan).intcon (frame_in plan).intcon) _ (bit_quiet (bit T0IE (bits (masks_in plan).intcon.cleared)) (bit T0IE (bits (masks_in plan).intcon.beneath)) 5 (frame_in plan).intcon)
-    (all_both Quiet (unmask_bit INTE (masks_in plan).intcon (frame_in plan).intcon) _ (bit_quiet (bit INTE (bits (masks_in plan).intcon.cleared)) (bit INTE (bits (masks_in plan).intcon.beneath)) 4 (frame_in plan).intcon)
-    (bit_quiet (bit PEIE (bits (masks_in plan).intcon.cleared)) (bit PEIE (bits (masks_in plan).intcon.beneath)) 6 (frame_in plan).intcon))))
+    all_both Quiet (unmasking (masks_in plan) (frame_in plan)) (clearing_page (plan.spread.pages && over_idle plan) ++ bringing place.Pclath (frame_in plan).pclath) (
+      quiet_1 plan (frame_in plan).pie1,
+      (
+        quiet_2 plan (frame_in plan).pie2,
+        all_both Quiet (unmask_bit T0IE (masks_in plan).intcon (frame_in plan).intcon) _ (bit_quiet (bit T0IE (bits (masks_in plan).intcon.cleared)) (bit T0IE (bits (masks_in plan).intcon.beneath)) 5 (frame_in plan).intcon)
+            (all_both Quiet (unmask_bit INTE (masks_in plan).intcon (frame_in plan).intcon) _ (bit_quiet (bit INTE (bits (masks_in plan).intcon.cleared)) (bit INTE (bits (masks_in plan).intcon.beneath)) 4 (frame_in plan).intcon)
+            (bit_quiet (bit PEIE (bits (masks_in plan).intcon.cleared)) (bit PEIE (bits (masks_in plan).intcon.beneath)) 6 (frame_in plan).intcon)),
+      ),
+    )
     (all_both Quiet (clearing_page (plan.spread.pages && over_idle plan)) (bringing place.Pclath (frame_in plan).pclath)
     (clearing_quiet (plan.spread.pages && over_idle plan)) (bringing_quiet (frame_in plan).pclath))
 
@@ -292,8 +297,8 @@ module _ (p : ProgramTree) (l : Layout) (e : ℕ) (plan : Plan) (its : IsPlanOf 
         let clears : Bool = plan.spread.pages && over_idle plan in
         let last : List Deed = clearing_page clears ++ bringing place.Pclath (frame_in plan).pclath in
         let are : (effect_in (front_deeds plan)).change c.regs ≡ (effect_in (bringing place.Pclath (frame_in plan).pclath)).change ((effect_in (clearing_page clears)).change enabled) =
-            effect_then (unmasking (masks_in plan) (frame_in plan)) last c.regs ∙ ap (λ r. (effect_in last).change r) enables_back
-            ∙ effect_then (clearing_page clears) (bringing place.Pclath (frame_in plan).pclath) enabled in
+        effect_then (unmasking (masks_in plan) (frame_in plan)) last c.regs ∙ ap (λ r. (effect_in last).change r) enables_back
+        ∙ effect_then (clearing_page clears) (bringing place.Pclath (frame_in plan).pclath) enabled in
         subst (BehindPage enabled x.regs.pclath) (sym are)
         (page_behind clears has_page page_place enabled x.regs.pclath easy.whole saved.usual.easy.whole page_saved page_zero
         (λ none stays. page_stays plan.spread.pages (over_idle plan) refl refl none stays easy))

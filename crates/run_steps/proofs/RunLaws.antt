@@ -1,35 +1,30 @@
 -- A run of each kind does what is asked of it.
-use Rattle.std.proofs.Common.{◌≡◌, ℕ, suc, ◌+◌, ◌-◌, ◌*◌, ◌/◌, ◌%◌, ◌<◌, ◌≤◌, ◌==◌, Bool, true, false, not, ◌&&◌, if◌then◌else◌, Option, Some, None, List, [], ◌∷◌, ◌++◌, length, map, refl, sym, ap, subst, ◌∙◌, arith}
-use Rattle.std.specs.Prelude.{nat_lt}
-use Rattle.std.specs.List.{AllByRecursion}
+use Rattle.std.proofs.Common.{◌≡◌, ℕ, ◌+◌, ◌-◌, ◌<◌, ◌≤◌, Bool, true, false, ◌&&◌, if◌then◌else◌, Some, List, [], ◌∷◌, length, map, refl, sym, ap, subst, ◌∙◌, arith}
 use Rattle.std.proofs.Common.{lt-ltb}
 use Rattle.frp_tree.specs.Tree.{ProgramTree}
 use Rattle.efrp_meaning.specs.States.{IsState}
 use Rattle.map_file.specs.declared.maps.Map.{Map}
 use Rattle.timed_core.specs.Timing.{Timing}
-use Rattle.pic_isa.specs.declared.bits.TheConstants.{GIE}
 use Rattle.pic_isa.specs.declared.sources.Source.{Source}
-use Rattle.pic_regs.specs.declared.places.Place.TheVariants as place
 use Rattle.pic_regs.specs.Bytes.{zeros}
 use Rattle.pic_machine.specs.Chip.{Chip}
 use Rattle.code_steps.specs.declared.banks.Bank.{Bank}
 use Rattle.code_steps.specs.declared.banks.Bank.TheVariants.{Known, Unknown}
 use Rattle.code_steps.specs.Steps.{Is, next, own}
-use Rattle.code_steps.specs.Between.{Alone, placed_at}
+use Rattle.code_steps.specs.Between.{Alone}
 use Rattle.code_steps.specs.Ends.{Between, Holds}
 use Rattle.code_steps.proofs.ComesLaws.{comes_longer}
 use Rattle.code_acts.specs.Codes.{moved}
 use Rattle.code_acts.specs.Standing.{StandFrom}
 use Rattle.code_items.specs.declared.items.Item.{Item}
 use Rattle.code_items.specs.declared.items.Item.TheVariants.{Jump}
-use Rattle.code_items.specs.Items.{ends_skipping, words_of_item}
+use Rattle.code_items.specs.Items.{words_of_item}
 use Rattle.code_items.specs.Lines.{Stands}
 use Rattle.glue_steps.specs.declared.lines.Line.{Line}
 use Rattle.glue_steps.specs.declared.lines.Line.TheVariants.{Lower, Skip}
 use Rattle.glue_steps.specs.Lines.{did, instr_of, item_of}
 use Rattle.glue_steps.specs.Laws.{StillIn}
 use Rattle.glue_steps.specs.Still.{Off}
-use Rattle.glue_steps.specs.Stretches.{place_behind}
 use Rattle.glue_steps.specs.Tells.{Withstands}
 use Rattle.glue_steps.proofs.StraightLaws.{place-behind}
 use Rattle.glue_steps.proofs.TellsLaws.{tells_longer, tells_now}
@@ -41,20 +36,19 @@ use Rattle.firmware_parts.specs.Layout.{Easy, Layout, Usual, is_told, piece}
 use Rattle.firmware_parts.specs.Layout.Part.{Begin, Commit, Copying, Exit, Lock, Open, Start, Work}
 use Rattle.firmware_parts.specs.Contexts.{AtLevel, Entered}
 use Rattle.firmware_parts.specs.Runs.{AtClear, AtLock, AtOn, AtOpen, AtReturn, Clean, DoesRun, Leads, Opened, Returned, Runs, Void, WorkStep}
-use Rattle.firmware_parts.specs.Work.{DoesWork}
 use Rattle.scratch_commit.specs.declared.kinds.Kind.{Kind}
 use Rattle.scratch_commit.specs.declared.kinds.Kind.TheVariants.{Short, Long, Bottom, Middle}
 use Rattle.scratch_commit.specs.Deeds.{LowerFlag, bank_past, lines_in}
-use Rattle.scratch_commit.specs.Plans.{Plan, context_in, is_short}
+use Rattle.scratch_commit.specs.Plans.{Plan, is_short}
 use Rattle.run_steps.specs.Laws.{RunDoes}
 use Rattle.run_steps.specs.Premises.{AreSpotsOf, Inside, IsRunIn, LieInParts, May}
 use Rattle.run_steps.specs.Saved.{SavedBy}
 use Rattle.run_steps.specs.Spots.{Spots, before_flag, entering_in, exit_bank, is_locked, lock_words, locked_spots, long_spots, moves_in, open_bank, restarting, returning_in, short_spots, spots_by, spots_of}
 use Rattle.run_steps.proofs.BeginFacts.{on_stays, places_inside, restart_again, restart_first}
 use Rattle.run_steps.proofs.ClearFacts.{starts_long}
-use Rattle.run_steps.proofs.GateFacts.{From, holds_from, passes, repeats}
+use Rattle.run_steps.proofs.GateFacts.{holds_from, passes, repeats}
 use Rattle.run_steps.proofs.LockFacts.{slips}
-use Rattle.run_steps.proofs.PlaceLaws.{LockedStands, LongStands, ShortStands, locked_stands, long_stands, short_stands, tail_items}
+use Rattle.run_steps.proofs.PlaceLaws.{LockedStands, locked_stands, long_stands, short_stands, tail_items}
 use Rattle.run_steps.proofs.SavedFacts.{saved_stays}
 use Rattle.run_steps.proofs.ShortFacts.{starts_short}
 use Rattle.run_steps.proofs.SkipFacts.{holds_placed, steps_over, words_over}
@@ -218,14 +212,17 @@ module _ (p : ProgramTree) (m : Map) (t : Timing) (l : Layout) (marks : ℕ → 
         starts = λ x c low here off rbie usual entered level above home typed. long_start long s at refl refl (omega (arith, room)) stands.start x c low here off rbie usual entered level above home;
         clears = λ c here zero bank. clears_long long s.clear is_clear stands.clear c here zero;
         opens_next = λ short. absurd (let clash : true ≡ false = sym short ∙ ns in cc);
-        begins = λ c not here off easy holds. tells_now l.program (StillIn l.program (piece l (Begin e))) (AtOn l e) [] t.start c (refl, record {
-              there = omega (arith, here, is_clear, is_on, room);
-              off = off;
-              easy = easy;
-              bank = holds;
-              untold = λ locked. absurd (let clash : true ≡ false = sym locked ∙ unlocked in cc);
-              usual = λ locked. absurd (let clash : true ≡ false = sym locked ∙ unlocked in cc);
-            });
+        begins = λ c not here off easy holds. tells_now l.program (StillIn l.program (piece l (Begin e))) (AtOn l e) [] t.start c (
+          refl,
+          record {
+            there = omega (arith, here, is_clear, is_on, room);
+            off = off;
+            easy = easy;
+            bank = holds;
+            untold = λ locked. absurd (let clash : true ≡ false = sym locked ∙ unlocked in cc);
+            usual = λ locked. absurd (let clash : true ≡ false = sym locked ∙ unlocked in cc);
+          },
+        );
         turns_on = λ c not here. turns_own l.program true s.on c stands.on (here ∙ is_on);
         work_next = λ not. omega (arith, is_on, is_work, room);
         void = λ c not here holds. works_void long s.work s.lock stands.work refl (omega (arith, room)) is_lock inside c (here ∙ is_work) holds;
@@ -234,7 +231,7 @@ module _ (p : ProgramTree) (m : Map) (t : Timing) (l : Layout) (marks : ℕ → 
         slips = λ c locked here holds usual. absurd (let clash : true ≡ false = sym locked ∙ unlocked in cc);
         repeats = λ c locked here off easy holds told. absurd (let clash : true ≡ false = sym locked ∙ unlocked in cc);
         passes = λ c not here off easy holds untold. tells_now l.program (StillIn l.program (piece l (Lock e))) (AtOpen l e) [] t.opening c
-              (refl, record { there = omega (arith, here, is_lock, is_opens, room); off = off; easy = easy; bank = holds });
+            (refl, record { there = omega (arith, here, is_lock, is_opens, room); off = off; easy = easy; bank = holds });
         window = tail.window;
         exits = tail.exits;
       }
@@ -261,13 +258,13 @@ module _ (p : ProgramTree) (m : Map) (t : Timing) (l : Layout) (marks : ℕ → 
         starts = λ x c low here off rbie usual entered level above home typed.
             let its_level = run.planned.level in
             starts_short p m l plans e run.planned run.frame short run.spares x c low usual entered level (omega (arith, its_level, above))
-                (record { bank = λ z. (home z).0; page = λ z. (home z).1 }) run.most run.work marks start stands.work stands.before (omega (arith, room))
-                (λ place its. let from = its.0 in let below = its.1 in at.lie.start place (from, omega (arith, below)))
-                (places_inside (λ q. l.inside (Start e) q ≡ true) s.entry s.clear (start + length plan.work) (before_flag plan) at.lie.start (omega (arith, room)) (omega arith) (omega arith))
-                (run.may.short is_its) starting (run.times.short is_its) is_entry (omega (arith, before, is_clear, room)) here off typed;
+            (record { bank = λ z. (home z).0; page = λ z. (home z).1 }) run.most run.work marks start stands.work stands.before (omega (arith, room))
+            (λ place its. let from = its.0 in let below = its.1 in at.lie.start place (from, omega (arith, below)))
+            (places_inside (λ q. l.inside (Start e) q ≡ true) s.entry s.clear (start + length plan.work) (before_flag plan) at.lie.start (omega (arith, room)) (omega arith) (omega arith))
+            (run.may.short is_its) starting (run.times.short is_its) is_entry (omega (arith, before, is_clear, room)) here off typed;
         clears = λ c here zero bank.
             subst (λ (source : Source). own l.program c ≡ Some (did (Lower source) c)) run.planned.source
-                (lower_own l.program plan.source plan.bank s.clear c stands.clear (here ∙ is_clear) (subst (λ b. Holds b c) (run.planned.bank ∙ open_short (is_short plan.kind) short) (bank is_its)));
+            (lower_own l.program plan.source plan.bank s.clear c stands.clear (here ∙ is_clear) (subst (λ b. Holds b c) (run.planned.bank ∙ open_short (is_short plan.kind) short) (bank is_its)));
         opens_next = λ is. omega (arith, is_clear, is_opens, room);
         begins = λ c not here off easy holds. absurd (never not);
         turns_on = λ c not here. absurd (never not);

@@ -1,10 +1,8 @@
 -- What a run has saved stays, over arrivals and where its frame and the enables stay.
-use Rattle.std.proofs.Common.{◌≡◌, ℕ, Option, Some, None, true, refl, sym, ap, subst, ◌∙◌}
-use Rattle.std.specs.Option.{ForSome}
+use Rattle.std.proofs.Common.{◌≡◌, ℕ, true, sym, ap, subst, ◌∙◌}
 use Rattle.pic_regs.specs.declared.places.Place.{Place}
 use Rattle.pic_regs.specs.declared.places.Place.TheVariants as place
 use Rattle.pic_regs.specs.Bytes.{Byte}
-use Rattle.pic_regs.specs.Map.{Plain}
 use Rattle.pic_regs.specs.Places.{reg_of}
 use Rattle.pic_regs.specs.Registers.{Registers, read}
 use Rattle.pic_machine.specs.Chip.{Chip}

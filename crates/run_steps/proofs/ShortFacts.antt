@@ -1,39 +1,34 @@
 -- From the start of a run that does its work with interrupts off to the clearing of its flag.
-use Rattle.std.proofs.Common.{◌≡◌, ℕ, suc, ◌+◌, ◌%◌, ◌<◌, ◌≤◌, ◌==◌, Bool, true, false, not, ◌&&◌, if◌then◌else◌, Option, Some, None, List, [], ◌∷◌, length, map, refl, sym, ap, subst, ◌∙◌, arith, inl, inr}
+use Rattle.std.proofs.Common.{◌≡◌, ℕ, ◌+◌, ◌<◌, ◌≤◌, ◌==◌, Bool, true, false, ◌&&◌, if◌then◌else◌, None, [], ◌∷◌, length, map, refl, sym, ap, subst, ◌∙◌, arith, inl, inr}
 use Rattle.std.specs.Prelude.{◌⊎◌}
 use Rattle.std.specs.Option.{ForSome}
 use Rattle.frp_tree.specs.Tree.{ProgramTree}
 use Rattle.efrp_meaning.specs.States.{IsState}
 use Rattle.map_file.specs.declared.maps.Map.{Map}
-use Rattle.pic_isa.specs.declared.sources.Source.{Source}
 use Rattle.pic_regs.specs.declared.places.Place.{Place}
-use Rattle.pic_regs.specs.declared.places.Place.TheVariants as place
 use Rattle.pic_regs.specs.Bytes.{Byte}
 use Rattle.pic_regs.specs.Places.{reg_of}
 use Rattle.pic_regs.specs.Registers.{Registers, read}
 use Rattle.pic_machine.specs.Chip.{Chip}
 use Rattle.pic_machine.specs.Results.{Done}
-use Rattle.code_steps.specs.declared.banks.Bank.{Bank}
 use Rattle.code_steps.specs.declared.banks.Bank.TheVariants.{Known}
-use Rattle.code_steps.specs.Steps.{Comes, own}
 use Rattle.code_steps.specs.Between.{Alone}
 use Rattle.code_steps.specs.Ends.{Between, Holds}
 use Rattle.code_acts.specs.Codes.{moved}
 use Rattle.code_acts.specs.Standing.{StandFrom}
 use Rattle.code_items.specs.Lines.{Stands}
-use Rattle.glue_steps.specs.declared.lines.Line.{Line}
 use Rattle.glue_steps.specs.Lines.{instr_of}
 use Rattle.glue_steps.specs.Stretches.{bits_of_bank, place_behind}
 use Rattle.glue_steps.specs.Laws.{StillIn}
-use Rattle.glue_steps.specs.Still.{Off, PlacesIn, Still}
-use Rattle.glue_steps.specs.Tells.{Tells, Withstands}
+use Rattle.glue_steps.specs.Still.{Off, PlacesIn}
+use Rattle.glue_steps.specs.Tells.{Withstands}
 use Rattle.glue_steps.proofs.StillLaws.{still_wider, still_work}
 use Rattle.glue_steps.proofs.TellsLaws.{tells_comes, tells_keeping, tells_longer, tells_then, tells_wider}
 use Rattle.glue_parts.specs.declared.kept.TheConstants.{SAVED_PCLATH, SAVED_STATUS}
 use Rattle.glue_parts.specs.Effects.{left, none}
 use Rattle.glue_parts.specs.Pieces.{bank_of_flag}
 use Rattle.glue_parts.proofs.MakeLaws.{makes_bank}
-use Rattle.firmware_parts.specs.Layout.{Easy, Layout, Usual, piece}
+use Rattle.firmware_parts.specs.Layout.{Layout, Usual, piece}
 use Rattle.firmware_parts.specs.Layout.Part.{Start, Work}
 use Rattle.firmware_parts.specs.Contexts.{AtLevel, Entered, SameEnables}
 use Rattle.firmware_parts.specs.Runs.{AtClear, Leads, Reacts}
@@ -47,11 +42,11 @@ use Rattle.scratch_commit.specs.Laws.{HasEnableBits}
 use Rattle.scratch_commit.specs.Masks.{masking, masks_of, no_masks, saved_of}
 use Rattle.scratch_commit.specs.Plans.{Plan, context_in, frame_in, is_short, masks_in}
 use Rattle.run_steps.specs.Premises.{IsFrameIn, IsPlanOf, May, Spares}
-use Rattle.run_steps.specs.Saved.{HasBank, Idle, SavedBy, masked_in}
-use Rattle.run_steps.specs.Spots.{before_flag, open_bank}
+use Rattle.run_steps.specs.Saved.{Idle, SavedBy, masked_in}
+use Rattle.run_steps.specs.Spots.{before_flag}
 use Rattle.run_steps.proofs.ClearFacts.{clear_stays, reacts_same}
 use Rattle.run_steps.proofs.FrameFacts.{wanted_is}
-use Rattle.run_steps.proofs.SavedFacts.{frame_read, same_alone, with_enabled}
+use Rattle.run_steps.proofs.SavedFacts.{frame_read, with_enabled}
 use Rattle.run_steps.proofs.StretchFacts.{banked_of, holds_of, lines_then, still_for}
 use Rattle.run_steps.proofs.WorkFacts.{comes_by, easy_same, no_return_in}
 
@@ -138,7 +133,7 @@ module _ (p : ProgramTree) (m : Map) (l : Layout) (plans : ℕ → Plan) (e : �
     works_told most works marks stands ends room inside more c at off holds state =
         let Q : Chip → Type 0 = λ d. AtEnd plan.bank c plan.work d × Reacts p m l e d.regs.plain in
         let come = works.reacts l.paged marks stop c
-            (record { pc = omega (arith, at, ends, room); room = omega (arith, at, ends, room); stand = subst (λ r. Stands l.paged l.program marks r plan.work stop) (sym at) stands; holds = holds }) state in
+        (record { pc = omega (arith, at, ends, room); room = omega (arith, at, ends, room); stand = subst (λ r. Stands l.paged l.program marks r plan.work stop) (sym at) stands; holds = holds }) state in
         let begun : Stays c c = record { off = off; enables = record { peie = refl; t0ie = refl; inte = refl; pie1 = refl; pie2 = refl }; bytes = λ address is. refl } in
         tells_wider l.program (λ d done. Step d done × Stays c d) (StillIn l.program (piece l (Start e))) (λ d. Q d × Stays c d) (Worked c) steps (λ d q. (q.0.0, q.0.1, q.1)) [] (length plan.work) c
         (tells_keeping l.program Step Q (Stays c) (stays_alone c) (stays_on c) [] (length plan.work) c begun
@@ -165,7 +160,7 @@ module _ (p : ProgramTree) (m : Map) (l : Layout) (plans : ℕ → Plan) (e : �
         let same : masked_in plan x.regs ≡ x.regs = masked_short (is_short plan.kind) short x.regs in
         let none_saved = saves_none (is_short plan.kind) short in
         let bytes : (address : ℕ) → l.frame e address ≡ true → f.regs.plain address ≡ c.regs.plain address =
-            λ address is. ap (λ (y : Chip). y.regs.plain address) only ∙ stays.bytes address is in
+        λ address is. ap (λ (y : Chip). y.regs.plain address) only ∙ stays.bytes address is in
         record {
           there = there;
           off = ap (λ (y : Chip). y.regs.intcon.b7) only ∙ stays.off;

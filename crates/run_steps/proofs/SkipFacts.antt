@@ -1,6 +1,6 @@
 -- Single steps of glue at a skip instruction: past the jump behind it where its test holds, in as many steps as are taken.
 use Rattle.std.specs.List.{cons_option}
-use Rattle.std.proofs.Common.{◌≡◌, ℕ, suc, ◌+◌, ◌%◌, ◌<◌, Bool, true, false, if◌then◌else◌, Option, Some, None, List, [], ◌∷◌, refl, sym, ap, subst, ◌∙◌, arith, inr}
+use Rattle.std.proofs.Common.{◌≡◌, ℕ, suc, ◌+◌, ◌<◌, Bool, true, false, if◌then◌else◌, Some, None, List, ◌∷◌, refl, sym, ap, subst, ◌∙◌, arith, inr}
 use Rattle.pic_isa.specs.declared.instructions.Instr.{Instr}
 use Rattle.pic_regs.specs.Bytes.{Byte}
 use Rattle.pic_machine.specs.declared.steps.PortWrite.{PortWrite}

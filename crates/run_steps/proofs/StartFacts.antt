@@ -1,31 +1,22 @@
 -- From the start of a run to the clearing of its flag: the frame and the masks.
-use Rattle.std.proofs.Common.{◌≡◌, ℕ, zero, suc, ◌+◌, ◌-◌, ◌*◌, ◌<◌, ◌≤◌, ◌==◌, Bool, true, false, not, ◌&&◌, if◌then◌else◌, Option, Some, None, List, [], ◌∷◌, ◌++◌, length, map, refl, sym, ap, subst, ◌∙◌, append_assoc, arith, lit<, lit≤, inl, inr}
+use Rattle.std.proofs.Common.{◌≡◌, ℕ, suc, ◌+◌, Bool, true, false, Some, None, List, [], ◌∷◌, ◌++◌, length, map, refl, sym, ap, subst, ◌∙◌, arith}
 use Rattle.std.proofs.lemmas.List.{length-append}
 use Rattle.std.specs.List.{AllByRecursion}
-use Rattle.std.specs.Option.{ForSome}
-use Rattle.pic_isa.specs.declared.bits.TheConstants.{INTE, PEIE, T0IE}
-use Rattle.pic_regs.specs.declared.places.Place.{Place}
 use Rattle.pic_regs.specs.declared.places.Place.TheVariants as place
-use Rattle.pic_regs.specs.Bytes.{Byte, bits, bit, updated}
-use Rattle.pic_regs.specs.Map.{Reg, Intcon, Pie1, Pie2, Plain}
-use Rattle.pic_regs.specs.Places.{reg_of}
-use Rattle.pic_regs.specs.Registers.{Registers, read}
+use Rattle.pic_regs.specs.Bytes.{Byte, updated}
+use Rattle.pic_regs.specs.Map.{Plain}
+use Rattle.pic_regs.specs.Registers.{Registers}
 use Rattle.pic_machine.specs.declared.steps.PortWrite.{PortWrite}
 use Rattle.pic_machine.specs.Chip.{Chip, advanced}
-use Rattle.pic_machine.specs.Results.{Done}
-use Rattle.bank_alloc.specs.declared.needs.Needs.{Needs}
-use Rattle.bank_alloc.specs.Addresses.{address_of}
-use Rattle.code_steps.specs.declared.banks.Bank.{Bank}
 use Rattle.code_steps.specs.declared.banks.Bank.TheVariants.{Known}
 use Rattle.code_steps.specs.Steps.{Is, next}
-use Rattle.code_steps.specs.Between.{Alone}
 use Rattle.code_steps.specs.Ends.{Holds}
 use Rattle.code_acts.specs.Standing.{StandFrom}
 use Rattle.glue_steps.specs.declared.lines.Line.{Line}
 use Rattle.glue_steps.specs.declared.lines.Line.TheVariants.{Load, Store}
 use Rattle.glue_steps.specs.Lines.{instr_of, loaded}
 use Rattle.glue_steps.specs.Stretches.{Banked, HasEnables, Reached, bits_of_bank, place_behind, ran_all}
-use Rattle.glue_steps.specs.Still.{MayWrite, Off, PlacesIn, Still}
+use Rattle.glue_steps.specs.Still.{Off, PlacesIn, Still}
 use Rattle.glue_steps.specs.Tells.{Given, Tells, Withstands}
 use Rattle.glue_steps.proofs.StillLaws.{given_still, off_stays, still_line}
 use Rattle.glue_steps.proofs.StraightLaws.{straight_then}
@@ -36,14 +27,12 @@ use Rattle.glue_parts.specs.Effects.{Blind, byte_written, left}
 use Rattle.glue_parts.specs.Pieces.{lines_for}
 use Rattle.glue_parts.proofs.MakeLaws.{blind_write, left_after, reached}
 use Rattle.scratch_commit.proofs.EffectLaws.{deeds-make}
-use Rattle.glue_parts.specs.Kept.{frame_cell}
-use Rattle.scratch_commit.specs.Deeds.{Deed, Change, Choose, Copy, Make, bank_past, lines_in}
+use Rattle.scratch_commit.specs.Deeds.{Deed, Copy, bank_past, lines_in}
 use Rattle.scratch_commit.specs.Effects.{DeedFits, effect_in}
-use Rattle.scratch_commit.specs.Frames.{byte_of_frame, saving, wanted}
-use Rattle.scratch_commit.specs.Masks.{mask_bit, masking}
+use Rattle.scratch_commit.specs.Frames.{saving, wanted}
 use Rattle.run_steps.specs.Deeds.{DeedStill}
-use Rattle.run_steps.proofs.FrameFacts.{IsLow, here_stored, low_bank, low_numbered, other_kept, saved_bank, saving_leaves, stored_if}
-use Rattle.run_steps.proofs.StretchFacts.{Led, deeds_then, holds_of}
+use Rattle.run_steps.proofs.FrameFacts.{IsLow, low_bank, low_numbered, stored_if}
+use Rattle.run_steps.proofs.StretchFacts.{deeds_then, holds_of}
 
 -- Lines that stand or lie somewhere, part after part.
 pub stand_split : (program : ℕ → ℕ) (p : ℕ) (xs ys : List Line) → StandFrom program p (map instr_of (xs ++ ys))
@@ -76,6 +65,7 @@ module _ (program : ℕ → ℕ) (In May : ℕ → Type 0) (Q : Chip → Type 0)
     where
       there : Reached (bits_of_bank (Known 0)) (Some (Plain a))
       there = subst (λ o. Reached (bits_of_bank (moved (Known 0) o)) (Some (Plain a))) (low_bank a low) (reached (Known 0) (Plain a) (low_numbered a low))
+
       store_then : (x : Byte) → HasEnables x c.regs.intcon → Tells program (Given Off (Still program In May)) Q later (suc m) (loaded x (advanced c))
       store_then x its =
           let count : length (Store (place.Plain a) ∷ []) + m ≡ suc m = omega arith in
@@ -135,7 +125,7 @@ module _ (program : ℕ → ℕ) (In May : ℕ → Type 0) (Q : Chip → Type 0)
         let none : lines ≡ [] = are in
         let as_was : saved_as c.regs.intcon ≡ (effect_in K).change c.regs = ap (λ (s : Bool). record ((effect_in K).change c.regs) { plain = stored_if s a c.regs.intcon ((effect_in K).change c.regs).plain }) is in
         let count : length (lines_in (Known 0) C) + m ≡ length lines + (length (lines_in (Known 0) C) + m) =
-            let words : length lines ≡ 0 = ap (λ (xs : List Line). length xs) none in omega (arith, words) in
+        let words : length lines ≡ 0 = ap (λ (xs : List Line). length xs) none in omega (arith, words) in
         subst (λ n. Goes later n d) count
         (ends_then c.regs.intcon q d refl (only ∙ ap (λ (r : Registers). left r d c) (sym as_was)) here bank gie
         (subst (λ (xs : List Line). StandFrom program q (map instr_of (xs ++ lines_in (Known 0) C))) none stand)
@@ -147,7 +137,7 @@ module _ (program : ℕ → ℕ) (In May : ℕ → Type 0) (Q : Chip → Type 0)
         let places_two = subst (λ (xs : List Line). PlacesIn In q (xs ++ lines_in (Known 0) C)) two places in
         let ends_two = ap (λ (xs : List Line). place_behind q (xs ++ lines_in (Known 0) C)) (sym two) ∙ ends in
         let count : suc (suc (length (lines_in (Known 0) C) + m)) ≡ length lines + (length (lines_in (Known 0) C) + m) =
-            let words : length lines ≡ 2 = ap (λ (xs : List Line). length xs) two in omega (arith, words) in
+        let words : length lines ≡ 2 = ap (λ (xs : List Line). length xs) two in omega (arith, words) in
         let kr : Registers = (effect_in K).change c.regs in
         let same : d.regs.intcon ≡ c.regs.intcon = ap (λ (y : Chip). y.regs.intcon) only ∙ ap (λ (r : Registers). r.intcon) (only_k c.regs) in
         subst (λ n. Goes later n d) count

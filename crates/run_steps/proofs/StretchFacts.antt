@@ -1,24 +1,23 @@
 -- Deeds that stand in program memory as steps of glue: what they lead to, over arrivals.
-use Rattle.std.proofs.Common.{◌≡◌, ℕ, suc, ◌+◌, ◌/◌, ◌%◌, ◌==◌, Bool, true, false, not, ◌&&◌, if◌then◌else◌, Option, Some, None, IfSome, List, [], ◌∷◌, ◌++◌, length, map, refl, sym, ap, subst, ◌∙◌, append_assoc, arith}
+use Rattle.std.proofs.Common.{◌≡◌, ℕ, suc, ◌+◌, ◌/◌, ◌%◌, ◌==◌, Bool, true, false, ◌&&◌, if◌then◌else◌, Option, Some, None, List, [], ◌∷◌, ◌++◌, length, map, refl, ap, subst, ◌∙◌, arith}
 use Rattle.std.specs.Prelude.{nat_le}
 use Rattle.std.proofs.lemmas.Bool.{and_parts, leb-true}
 use Rattle.std.specs.List.{AllByRecursion}
 use Rattle.pic_regs.specs.declared.places.Place.{Place}
 use Rattle.pic_regs.specs.declared.places.Place.TheVariants as place
 use Rattle.pic_regs.specs.Bytes.{Byte, bits, bit, with_bit, is_zero}
-use Rattle.pic_regs.specs.Map.{Reg, Absent, Indf, Pcl, Status, Fsr, Pclath, Intcon, Pir1, Pir2, Pie1, Pie2, Port, Tris, Plain}
+use Rattle.pic_regs.specs.Map.{Reg, Intcon}
 use Rattle.pic_regs.specs.Places.{reg_of}
 use Rattle.pic_regs.specs.Registers.{Registers, read, write}
 use Rattle.pic_machine.specs.declared.steps.PortWrite.{PortWrite}
 use Rattle.pic_machine.specs.Chip.{Chip}
-use Rattle.pic_machine.specs.Results.{Done}
 use Rattle.code_steps.specs.declared.banks.Bank.{Bank}
 use Rattle.code_steps.specs.declared.banks.Bank.TheVariants.{Known, Unknown}
 use Rattle.code_steps.specs.Ends.{Holds}
 use Rattle.code_acts.specs.Codes.{low_bit, high_bit, moved}
 use Rattle.code_acts.specs.Standing.{StandFrom}
 use Rattle.glue_steps.specs.declared.lines.Line.{Line}
-use Rattle.glue_steps.specs.declared.lines.Line.TheVariants.{Constant, Load, Store, Clear, Bit, Lower, Skip, Nothing}
+use Rattle.glue_steps.specs.declared.lines.Line.TheVariants.{Constant, Load, Store, Clear, Bit, Skip}
 use Rattle.glue_steps.specs.Lines.{instr_of}
 use Rattle.glue_steps.specs.Stretches.{BankBits, Banked, bits_of_bank, place_behind, puts_of, ran_all}
 use Rattle.glue_steps.specs.Still.{MayWrite, Off, PlacesIn, Still, StillLines, is_glue_reg, is_still}
@@ -27,11 +26,10 @@ use Rattle.glue_steps.proofs.StillLaws.{given_still, off_stays, still_all, still
 use Rattle.glue_steps.proofs.StraightLaws.{banked_ends, ran_place, straight_then}
 use Rattle.glue_steps.proofs.TellsLaws.{tells_given}
 use Rattle.glue_parts.specs.Places.{bank_of}
-use Rattle.glue_parts.specs.Pieces.{knows, bit_lines, is_known, lines_to_choose, lines_for, writing, lines_to_write, lines_of_change, only_bit, bank_of_flag}
+use Rattle.glue_parts.specs.Pieces.{knows, bit_lines, is_known, lines_to_choose, lines_for, writing, lines_of_change, only_bit}
 use Rattle.glue_parts.specs.Effects.{Effect, Makes, change_made, left, none}
 use Rattle.scratch_commit.specs.Deeds.{Deed, Change, Choose, Copy, LowerFlag, Make, Pause, SetIf, Write, bank_behind, bank_past, lines_in, lines_of}
 use Rattle.scratch_commit.specs.Effects.{DeedFits, effect_in, effect_of}
-use Rattle.scratch_commit.proofs.DeedLaws.{all_both}
 use Rattle.scratch_commit.proofs.EffectLaws.{deeds-make}
 use Rattle.run_steps.specs.Deeds.{DeedStill}
 
@@ -173,9 +171,9 @@ module _ (program : ℕ → ℕ) (In May : ℕ → Type 0) (Q : Chip → Type 0)
   lines_then known behind e lines p m later c makes stand places still at banked off told =
       let d : Chip = ran_all false lines c in
       let led : Led e behind (place_behind p lines) c d = record {
-      only = makes.leaves c;
-      there = ran_place lines false false known p c (λ b. b) makes.fits at;
-      banked = subst (λ k. Banked k d) makes.banked (banked_ends lines false false known c (λ b. b) makes.fits banked);
+        only = makes.leaves c;
+        there = ran_place lines false false known p c (λ b. b) makes.fits at;
+        banked = subst (λ k. Banked k d) makes.banked (banked_ends lines false false known c (λ b. b) makes.fits banked);
       } in
       subst (λ puts. Tells program (Still program In May) Q puts (length lines + m) c) (makes.puts c later)
       (tells_given program Off (Still program In May) Q off_stays (puts_of false lines c later) (length lines + m) c off

@@ -1,28 +1,24 @@
 -- From the open of a run to its return, where its items stand; and single steps: the clearing of a flag, and interrupts on and off.
 use Rattle.std.specs.Prelude.{bit_and}
-use Rattle.std.proofs.Common.{◌≡◌, ℕ, suc, ◌+◌, ◌-◌, ◌*◌, ◌/◌, ◌%◌, ◌^◌, ◌<◌, ◌≤◌, ◌==◌, Bool, true, false, not, ◌&&◌, if◌then◌else◌, Option, Some, None, List, [], ◌∷◌, ◌++◌, length, map, refl, sym, ap, subst, ◌∙◌, append_assoc, arith}
+use Rattle.std.proofs.Common.{◌≡◌, ℕ, suc, ◌+◌, ◌-◌, ◌%◌, ◌^◌, ◌<◌, Bool, true, false, not, Some, List, [], ◌∷◌, ◌++◌, length, map, refl, sym, ap, subst, ◌∙◌, arith}
 use Rattle.std.proofs.lemmas.List.{length-append}
 use Rattle.std.proofs.lemmas.Nat.{and_mask}
-use Rattle.std.specs.List.{AllByRecursion}
 use Rattle.frp_tree.specs.Tree.{ProgramTree}
 use Rattle.map_file.specs.declared.maps.Map.{Map}
 use Rattle.timed_core.specs.Timing.{Timing}
-use Rattle.pic_isa.specs.declared.instructions.Instr.{Instr}
 use Rattle.pic_isa.specs.declared.instructions.Instr.TheVariants.{Retfie}
 use Rattle.pic_isa.specs.declared.sources.Source.{Source}
 use Rattle.pic_isa.specs.declared.sources.Source.TheVariants.{T0}
 use Rattle.pic_isa.specs.Instructions.{instruction_of}
 use Rattle.pic_isa.specs.Sources.{flag_of}
 use Rattle.pic_isa.proofs.RowLaws.{found-is_row}
-use Rattle.pic_regs.specs.declared.places.Place.TheVariants as place
 use Rattle.pic_regs.specs.Map.{reg_at}
-use Rattle.pic_regs.specs.Registers.{Registers}
 use Rattle.pic_machine.specs.Chip.{Chip}
 use Rattle.pic_machine.specs.Exec.{exec}
 use Rattle.code_steps.specs.declared.banks.Bank.{Bank}
 use Rattle.code_steps.specs.declared.banks.Bank.TheVariants.{Known}
 use Rattle.code_steps.specs.Steps.{Is, next, own}
-use Rattle.code_steps.specs.Ends.{Between, Holds}
+use Rattle.code_steps.specs.Ends.{Holds}
 use Rattle.code_steps.proofs.ComesLaws.{own_is}
 use Rattle.code_acts.specs.Codes.{moved}
 use Rattle.code_acts.specs.Standing.{StandFrom}
@@ -30,11 +26,11 @@ use Rattle.code_items.specs.declared.items.Item.{Item}
 use Rattle.code_items.specs.declared.items.Item.TheVariants.{Ins}
 use Rattle.code_items.specs.Lines.{Stands}
 use Rattle.glue_steps.specs.declared.lines.Line.{Line}
-use Rattle.glue_steps.specs.declared.lines.Line.TheVariants.{Bit, Lower}
+use Rattle.glue_steps.specs.declared.lines.Line.TheVariants.{Lower}
 use Rattle.glue_steps.specs.Lines.{did, instr_of}
 use Rattle.glue_steps.specs.Laws.{StillIn}
-use Rattle.glue_steps.specs.Still.{Off, PlacesIn}
-use Rattle.glue_steps.specs.Stretches.{Banked, bits_of_bank, place_behind}
+use Rattle.glue_steps.specs.Still.{Off}
+use Rattle.glue_steps.specs.Stretches.{bits_of_bank, place_behind}
 use Rattle.glue_steps.proofs.LineLaws.{line_is}
 use Rattle.glue_steps.proofs.StraightLaws.{place-behind}
 use Rattle.glue_parts.specs.Effects.{Makes}
@@ -45,7 +41,7 @@ use Rattle.glue_parts.proofs.MakeLaws.{reached}
 use Rattle.firmware_parts.specs.Layout.{Easy, Layout, piece}
 use Rattle.firmware_parts.specs.Layout.Part.{Commit, Copying, Exit, Open}
 use Rattle.firmware_parts.specs.Runs.{AtOpen, AtReturn, Leads, Opened, Runs, turns}
-use Rattle.scratch_commit.specs.Deeds.{Deed, bank_past, lines_in}
+use Rattle.scratch_commit.specs.Deeds.{lines_in}
 use Rattle.scratch_commit.specs.Effects.{effect_in}
 use Rattle.scratch_commit.specs.Plans.{Plan, glue, over_idle}
 use Rattle.scratch_commit.specs.Windows.{marked_last}
@@ -131,7 +127,7 @@ module _ (p : ProgramTree) (m : Map) (t : Timing) (l : Layout) (marks : ℕ → 
       subst (λ (xs : List Line). Stands l.paged l.program marks opens (marked_last (mark (Committing plan.event)) xs ++ rest) stop) are stands.1 in
       let both = length-append window_parts.middle (window_parts.last ∷ []) in
       let parts = marked_stand l.paged l.program marks (mark (Committing plan.event)) window_parts.first (window_parts.middle ++ window_parts.last ∷ []) opens stop rest window_parts.plain
-          (omega (arith, both, count, room)) at in
+      (omega (arith, both, count, room)) at in
       let same : opens + suc (length (window_parts.middle ++ window_parts.last ∷ [])) ≡ opens + length L = omega (arith, both, count) in
       (parts.0, subst (λ r. Stands l.paged l.program marks r rest stop) same parts.2)
 
@@ -146,7 +142,7 @@ module _ (p : ProgramTree) (m : Map) (t : Timing) (l : Layout) (marks : ℕ → 
       let commits : l.commits e ≡ place_behind (next (l.opens e)) middle = omega (arith, place, is_opens, is_commits, count, room) in
       let enough = times.copying in
       let inner = places_inside (λ q. l.inside (Copying e) q ≡ true) (opens + 1) (l.commits e) (next (l.opens e)) middle in_copying
-          (omega (arith, is_commits, count, room)) (omega (arith, is_opens, count, room)) (omega (arith, is_opens, is_commits, count, room)) in
+      (omega (arith, is_commits, count, room)) (omega (arith, is_opens, count, room)) (omega (arith, is_opens, is_commits, count, room)) in
       opens_window l e t.copying (bits_of_bank (open_bank plan)) (bits_of_bank (exit_bank plan)) (effect_in (moves_in plan)) window_parts.first middle window_parts.last made window_parts.plain
       (subst (λ r. StandFrom l.program r (map instr_of whole)) (sym is_opens) behind_lines.0) window_parts.quiet window_parts.still window_parts.ends
       (subst (λ r. l.inside (Open e) r ≡ true) (sym is_opens) (in_open opens (omega arith, omega arith))) inner commits (in_commit (l.commits e) (omega arith, omega arith)) (omega (arith, count, enough))

@@ -1,10 +1,7 @@
 -- Lines from the open of a window to its commit, as steps with interrupts off.
-use Rattle.std.proofs.Common.{◌≡◌, ℕ, suc, ◌+◌, ◌-◌, ◌%◌, ◌<◌, ◌≤◌, ◌==◌, Bool, true, false, not, ◌&&◌, if◌then◌else◌, Option, Some, None, IfSome, List, [], ◌∷◌, ◌++◌, length, map, refl, sym, ap, subst, ◌∙◌, arith}
+use Rattle.std.proofs.Common.{◌≡◌, ℕ, ◌≤◌, Bool, true, false, not, ◌&&◌, if◌then◌else◌, Option, Some, None, IfSome, List, [], ◌∷◌, ◌++◌, length, map, refl, sym, ap, subst, ◌∙◌}
 use Rattle.std.specs.List.{AllByRecursion, cons_option}
 use Rattle.std.proofs.lemmas.Bool.{and_parts}
-use Rattle.std.proofs.lemmas.List.{length-append}
-use Rattle.pic_isa.specs.declared.instructions.Instr.{Instr}
-use Rattle.pic_regs.specs.declared.places.Place.{Place}
 use Rattle.pic_regs.specs.declared.places.Place.TheVariants as place
 use Rattle.pic_regs.specs.Bytes.{Byte}
 use Rattle.pic_regs.specs.Registers.{Registers}
@@ -20,10 +17,10 @@ use Rattle.code_acts.specs.Standing.{StandFrom}
 use Rattle.glue_steps.specs.declared.lines.Line.{Line}
 use Rattle.glue_steps.specs.declared.lines.Line.TheVariants.{Bit, Clear, Constant, Load, Lower, Nothing, Skip, Store}
 use Rattle.glue_steps.specs.Lines.{did, instr_of, is_glue, ran, skips}
-use Rattle.glue_steps.specs.Stretches.{BankBits, Banked, Fits, bank_behind, bank_behind_all, bits_of_bank, may_skip, moves_bank, place_behind, puts_of, ran_all}
+use Rattle.glue_steps.specs.Stretches.{BankBits, Banked, Fits, bank_behind, bank_behind_all, may_skip, moves_bank, place_behind, puts_of, ran_all}
 use Rattle.glue_steps.specs.Laws.{StillIn}
-use Rattle.glue_steps.specs.Still.{MayWrite, Off, PlacesIn, Still, StillLines, is_still, target_of}
-use Rattle.glue_steps.specs.Tells.{Tells, Withstands}
+use Rattle.glue_steps.specs.Still.{MayWrite, Off, PlacesIn, StillLines, is_still, target_of}
+use Rattle.glue_steps.specs.Tells.{Withstands}
 use Rattle.glue_steps.proofs.LineLaws.{banked_behind, line_is, line_place, put_alone, ran_alone}
 use Rattle.glue_steps.proofs.StillLaws.{off_stays, still_line, still_parts}
 use Rattle.glue_steps.proofs.StraightLaws.{banked_ends, banked_stays, ran_place}
@@ -31,11 +28,10 @@ use Rattle.glue_steps.proofs.StretchLaws.{straight_still}
 use Rattle.glue_steps.proofs.TellsLaws.{tells_longer}
 use Rattle.glue_parts.specs.Effects.{Effect, Makes, left}
 use Rattle.glue_parts.proofs.MakeLaws.{ends_well, puts_then, ran_then}
-use Rattle.firmware_parts.specs.Layout.{Layout, is_told, piece}
+use Rattle.firmware_parts.specs.Layout.{Layout, piece}
 use Rattle.firmware_parts.specs.Layout.Part.{Commit, Copying, Open}
-use Rattle.firmware_parts.specs.Runs.{AtCommit, AtOpen, Committed, Leads, Opened, Runs}
+use Rattle.firmware_parts.specs.Runs.{AtCommit, AtOpen, Committed, Opened, Runs}
 use Rattle.run_steps.proofs.StartFacts.{stand_split}
-use Rattle.run_steps.proofs.StretchFacts.{banked_of, holds_of}
 
 -- A line that puts nothing and writes no register but STATUS.
 abbrev pub is_quiet : Line → Bool
@@ -180,16 +176,16 @@ module _ (l : Layout) (e k : ℕ) (known behind : BankBits) (effect : Effect) (f
     committing d r g s off =
         let here : d.pc ≡ l.opens e = ap (λ (x : Chip). x.pc) r.only ∙ at.there in
         let one : (ran first d).pc ≡ next (l.opens e) =
-            line_place first d glue_first ∙ ap (λ (b : Bool). if b then next (next d.pc) else next d.pc) (plain_skips first d plain.0) ∙ ap next here in
+        line_place first d glue_first ∙ ap (λ (b : Bool). if b then next (next d.pc) else next d.pc) (plain_skips first d plain.0) ∙ ap next here in
         let place : (at_commit d).pc ≡ place_behind (next (l.opens e)) middle =
-            ran_place middle false false (bank_behind first known) (next (l.opens e)) (ran first d) (λ b. b) fits_parts.0 one in
+        ran_place middle false false (bank_behind first known) (next (l.opens e)) (ran first d) (λ b. b) fits_parts.0 one in
         let there : g.pc ≡ place_behind (next (l.opens e)) middle = ap (λ (x : Chip). x.pc) s.only ∙ place in
         let bank_d = banked_stays known c d r banked in
         let bank_one = banked_behind first known d glue_first bank_d in
         let bank_all = banked_ends middle false false (bank_behind first known) (ran first d) (λ b. b) fits_parts.0 bank_one in
         let bank_g = banked_stays (bank_behind_all middle (bank_behind first known)) (at_commit d) g s bank_all in
         let step = still_line l.program (λ p. l.inside (Commit e) p ≡ true) (λ address. l.may (Commit e) address ≡ true) (place_behind (next (l.opens e)) middle) last ends.0
-            (subst (λ p. l.inside (Commit e) p ≡ true) commits in_commit) ends.1 g there stand_parts.1.0 off in
+        (subst (λ p. l.inside (Commit e) p ≡ true) commits in_commit) ends.1 g there stand_parts.1.0 off in
         let moved = ran_alone last glue_last (at_commit d) g s in
         let total : ran last (at_commit d) ≡ left (effect.change d.regs) (ran_all false (first ∷ rest) d) d = sym (ran_first d) ∙ makes.leaves d in
         let bytes : (ran last g).regs.plain ≡ (effect.change d.regs).plain = ap (λ (x : Chip). x.regs.plain) moved.only ∙ ap (λ (x : Chip). x.regs.plain) total in
@@ -230,7 +226,7 @@ module _ (l : Layout) (e k : ℕ) (known behind : BankBits) (effect : Effect) (f
         let quiet_line = quiet_still (λ address. l.may (Open e) address ≡ true) first quiet in
         let step = still_line l.program (λ p. l.inside (Open e) p ≡ true) (λ address. l.may (Open e) address ≡ true) (l.opens e) first quiet_line.0 in_open quiet_line.1 d here stand.0 off_d in
         let one : (ran first d).pc ≡ next (l.opens e) =
-            line_place first d glue_first ∙ ap (λ (b : Bool). if b then next (next d.pc) else next d.pc) (plain_skips first d plain.0) ∙ ap next here in
+        line_place first d glue_first ∙ ap (λ (b : Bool). if b then next (next d.pc) else next d.pc) (plain_skips first d plain.0) ∙ ap next here in
         let bank_one = banked_behind first known d glue_first bank_d in
         let before : d.regs.plain ≡ c.regs.plain = ap (λ (x : Chip). x.regs.plain) r.only in (
           did first d,
@@ -257,9 +253,9 @@ module _ (l : Layout) (e k : ℕ) (known behind : BankBits) (effect : Effect) (f
         there_at d r off =
             let here : d.pc ≡ l.opens e = ap (λ (x : Chip). x.pc) r.only ∙ at.there in
             let one : (ran first d).pc ≡ next (l.opens e) =
-                line_place first d glue_first ∙ ap (λ (b : Bool). if b then next (next d.pc) else next d.pc) (plain_skips first d plain.0) ∙ ap next here in
+            line_place first d glue_first ∙ ap (λ (b : Bool). if b then next (next d.pc) else next d.pc) (plain_skips first d plain.0) ∙ ap next here in
             let off_there = off_lines l.program (λ p. l.inside (Copying e) p ≡ true) (λ address. l.may (Copying e) address ≡ true) middle (bank_behind first known) (next (l.opens e)) (ran first d)
-                plain_rest.0 fits_parts.0 stand_parts.0 in_copying still one off in
+            plain_rest.0 fits_parts.0 stand_parts.0 in_copying still one off in
             record {
               there = ran_place middle false false (bank_behind first known) (next (l.opens e)) (ran first d) (λ b. b) fits_parts.0 one ∙ sym commits;
               off = off_there;

@@ -1,27 +1,23 @@
 -- The work of a run on the chip: it comes to its lock, whatever runs of others do between; and a late interrupt at the lock brings it back.
-use Rattle.std.proofs.Common.{◌≡◌, ℕ, zero, suc, ◌+◌, ◌-◌, ◌*◌, ◌/◌, ◌%◌, ◌<◌, ◌≤◌, ◌==◌, Bool, true, false, not, Option, Some, None, List, [], ◌∷◌, ◌++◌, length, refl, sym, ap, subst, ◌∙◌, arith, inl, inr}
-use Rattle.std.specs.Prelude.{◌⊎◌, IfSome}
+use Rattle.std.proofs.Common.{◌≡◌, ℕ, zero, suc, ◌+◌, ◌%◌, ◌<◌, ◌≤◌, ◌==◌, Bool, true, false, Option, Some, None, List, length, refl, sym, ap, subst, ◌∙◌, arith, inl, inr}
 use Rattle.std.proofs.Common.{eqb-true}
 use Rattle.frp_tree.specs.Tree.{ProgramTree}
 use Rattle.efrp_meaning.specs.States.{IsState}
-use Rattle.pic_isa.specs.declared.instructions.Instr.{Instr}
-use Rattle.pic_isa.specs.declared.instructions.Instr.TheVariants.{Retfie}
 use Rattle.pic_isa.specs.Instructions.{instruction_of}
-use Rattle.pic_regs.specs.Bytes.{Byte, zeros}
+use Rattle.pic_regs.specs.Bytes.{Byte}
 use Rattle.pic_regs.specs.Map.{Pclath, existing}
-use Rattle.pic_machine.specs.Chip.{Chip, advanced, popped, with_gie}
-use Rattle.pic_machine.specs.Results.{Done, leaves}
-use Rattle.pic_machine.specs.Exec.{exec}
+use Rattle.pic_machine.specs.Chip.{Chip}
+use Rattle.pic_machine.specs.Results.{Done}
 use Rattle.map_file.specs.declared.maps.Map.{Map}
 use Rattle.code_steps.specs.declared.banks.Bank.{Bank}
 use Rattle.code_steps.specs.declared.banks.Bank.TheVariants.{Known}
-use Rattle.code_steps.specs.Steps.{Comes, next, own, own_of}
+use Rattle.code_steps.specs.Steps.{Comes, own, own_of}
 use Rattle.code_steps.specs.Between.{Alone, Others}
-use Rattle.code_steps.specs.Ends.{Between, Holds, Own, with_work_of}
+use Rattle.code_steps.specs.Ends.{Between, Holds, with_work_of}
 use Rattle.code_steps.proofs.ComesLaws.{comes_longer}
 use Rattle.code_items.specs.declared.items.Item.{Item}
 use Rattle.code_items.specs.Lines.{Stands}
-use Rattle.firmware_parts.specs.Layout.{Easy, Layout, Usual}
+use Rattle.firmware_parts.specs.Layout.{Easy, Layout}
 use Rattle.firmware_parts.specs.Layout.Part.{Work}
 use Rattle.firmware_parts.specs.Runs.{AtLock, Clean, Reacts, Returned, Void, WorkStep}
 use Rattle.firmware_parts.specs.Work.{AtEnd, AtWork, DoesWork, WorkOwn}
@@ -71,9 +67,9 @@ module _ (l : Layout) (e start stop : ℕ) (inside : (place : ℕ) → Between s
     kept = step.own.kept;
     easy = easy_same l d done.chip step.page;
     usual = λ locked usual. record {
-        easy = easy_same l d done.chip step.page usual.easy;
-        bank = λ unsaved. step.bank locked unsaved (usual.bank unsaved);
-        page = λ unsaved. step.page ∙ usual.page unsaved;
+      easy = easy_same l d done.chip step.page usual.easy;
+      bank = λ unsaved. step.bank locked unsaved (usual.bank unsaved);
+      page = λ unsaved. step.page ∙ usual.page unsaved;
     };
     plain = step.own.plain;
     wrote = step.own.wrote;

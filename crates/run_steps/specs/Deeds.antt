@@ -1,5 +1,5 @@
 -- Deeds as steps of glue that write what they may.
-use Rattle.std.specs.Prelude.{◌≡◌, ℕ, ◌<◌, Bool, true, false, nat_le, ◌&&◌}
+use Rattle.std.specs.Prelude.{◌≡◌, ℕ, ◌<◌, true, false, nat_le, ◌&&◌}
 use Rattle.pic_regs.specs.declared.places.Place.TheVariants as place
 use Rattle.pic_regs.specs.Bytes.{bits, is_zero}
 use Rattle.pic_regs.specs.Map.{Plain, reg_at}

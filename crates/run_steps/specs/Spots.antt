@@ -1,15 +1,14 @@
 -- The places of a run, counted from its start.
-use Rattle.std.specs.Prelude.{ℕ, ◌+◌, ◌-◌, ◌*◌, Bool, true, false, if◌then◌else◌, List, [], ◌∷◌, ◌++◌, length, not, ◌&&◌}
-use Rattle.pic_isa.specs.declared.sources.Source.{Source}
+use Rattle.std.specs.Prelude.{ℕ, ◌+◌, ◌-◌, Bool, true, false, if◌then◌else◌, List, [], ◌∷◌, length, not, ◌&&◌}
 use Rattle.code_steps.specs.declared.banks.Bank.{Bank}
 use Rattle.code_steps.specs.declared.banks.Bank.TheVariants.{Known}
 use Rattle.glue_steps.specs.declared.lines.Line.{Line}
 use Rattle.glue_parts.specs.declared.kept.TheConstants.{REDO}
 use Rattle.glue_parts.specs.Pieces.{bank_of_flag, lines_for}
 use Rattle.scratch_commit.specs.declared.kinds.Kind.{Kind}
-use Rattle.scratch_commit.specs.declared.kinds.Kind.TheVariants.{Short, Long, Bottom, Middle}
+use Rattle.scratch_commit.specs.declared.kinds.Kind.TheVariants.{Short, Long}
 use Rattle.scratch_commit.specs.Deeds.{Deed, Choose, Write, bank_past, lines_in}
-use Rattle.scratch_commit.specs.Plans.{Plan, bank_at_window, entering, frame_in, is_short, masks_in, over_idle, returning}
+use Rattle.scratch_commit.specs.Plans.{Plan, bank_at_window, entering, frame_in, masks_in, over_idle, returning}
 use Rattle.scratch_commit.specs.Windows.{window}
 
 -- Interrupts are on in its work, and a lock stands behind it.

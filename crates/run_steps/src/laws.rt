@@ -11,8 +11,6 @@ ghost use Rattle.run_steps.specs.Laws.{RunDoes};
 /// flag, works with interrupts on or off, commits only what no other run has made void, and returns with the context of what it
 /// interrupted, whatever arrives and whichever runs come between.
 pub fn run_does()
-    ensures {
-        (p : ProgramTree) (m : AnyMap) (t : Timing) (l : Layout) (marks : ℕ → ℕ) (starting : ℕ) (start : ℕ) (plans : ℕ → Plan) (e : ℕ)
-        → RunDoes p m t l marks starting start plans e
-    }
+    ensures { (p : ProgramTree) (m : AnyMap) (t : Timing) (l : Layout) (marks : ℕ → ℕ) (starting : ℕ) (start : ℕ) (plans : ℕ → Plan) (e : ℕ)
+        → RunDoes p m t l marks starting start plans e }
 {}
