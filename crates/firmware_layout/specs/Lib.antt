@@ -1,5 +1,6 @@
 pub mod Heard
 pub mod Laws
 pub mod Layouts
+pub mod Made
 pub mod Pieces
 pub mod Sound

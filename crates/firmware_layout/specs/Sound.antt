@@ -1,12 +1,13 @@
 -- What is to be known of what firmware is made of, of program memory, and of the map.
 use Rattle.std.specs.Prelude.{◌≡◌, ℕ, ◌+◌, ◌<◌, ◌≤◌, ◌⊎◌, true, false, List, [], map, length, slice_get, Some}
 use Rattle.std.specs.List.{AllByRecursion}
+use Rattle.frp_tree.specs.declared.syntax.Setup.{Setup}
 use Rattle.frp_tree.specs.Tree.{OutputTree}
 use Rattle.efrp_meaning.specs.Bounds.{levels, settle_bound, state_bytes}
 use Rattle.efrp_meaning.specs.Decls.{inputs_of}
 use Rattle.efrp_types.specs.Laws.{IsWellFormed}
 use Rattle.efrp_types.specs.Passes.{Passes}
-use Rattle.pic_isa.specs.Names.{port_at}
+use Rattle.pic_isa.specs.Names.{port_at, register_at}
 use Rattle.pic_isa.specs.Sources.{enable_of, flag_of}
 use Rattle.pic_regs.specs.declared.places.Place.{Place}
 use Rattle.pic_regs.specs.declared.places.Place.TheVariants.{Plain, Port}
@@ -80,6 +81,7 @@ pub record ListsWritten (f : Makings) (m : Map) : Type 0 where
   pub frames : (event address : ℕ) → event < length f.p.events → is_in_frame (frame_in (plan_in f event)) address ≡ true → is_listed m address ≡ true
   pub flags : (event : ℕ) → event < length f.p.events → is_listed m (flag_of (f.source event)).address ≡ true
   pub outputs : (n : ℕ) (o : OutputTree) (port : ℕ) → slice_get f.p.outputs n ≡ Some o → port_at o.port ≡ Some port → is_listed m (5 + port) ≡ true
+  pub setups : (n : ℕ) (s : Setup) (address : ℕ) → slice_get f.p.setups n ≡ Some s → register_at s.register ≡ Some address → is_listed m address ≡ true
   pub pie1 : is_listed m 0x08C ≡ false → (level byte : ℕ) → HasEnablesIn f.p level 0x08C byte → bits byte ≡ zeros
   pub pie2 : is_listed m 0x08D ≡ false → (level byte : ℕ) → HasEnablesIn f.p level 0x08D byte → bits byte ≡ zeros
 
