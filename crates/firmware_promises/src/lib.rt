@@ -2,7 +2,7 @@
 //! `IsFirmware`.
 //!
 //! The crate has definitions over a program, the log of a run and a map, and laws on them; they know nothing of how
-//! code is laid out. The contracts of `counter_code`, `firmware` and `frp_tool` cite them.
+//! code is laid out. The contracts of `code_story`, `firmware` and `frp_tool` cite them.
 #![tactic(auto)]
 
 mod laws;
