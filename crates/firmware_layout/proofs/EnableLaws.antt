@@ -22,7 +22,7 @@ use Rattle.firmware_layout.specs.Laws.{LayoutEnables}
 use Rattle.firmware_layout.specs.Layouts.{event_level}
 use Rattle.firmware_layout.specs.Pieces.{Makings}
 use Rattle.firmware_layout.specs.Sound.{AreMakings}
-use Rattle.firmware_layout.proofs.EventFacts.{is_event, level_inside, source_is}
+use Rattle.firmware_layout.proofs.EventLaws.{is_event, level_inside, source_is}
 use Rattle.firmware_layout.proofs.HeardLaws.{is_heard}
 
 -- Where a bit of a byte is 1 it is set, and the other way round.

@@ -19,7 +19,7 @@ use Rattle.pic_regs.proofs.ByteLaws.{bits-num, num-below}
 use Rattle.priority_masks.specs.Levels.{HasEnablesIn, IsAbove, level_of}
 use Rattle.glue_parts.specs.Heard.{IsHeardAt, IsPeripheral}
 use Rattle.firmware_layout.specs.Heard.{enables_in, heard, is_above, is_enable, is_enabled, needs_peie}
-use Rattle.firmware_layout.proofs.RangeFacts.{found_in, found_in_range, some_in_range, some_source}
+use Rattle.firmware_layout.proofs.RangeLaws.{found_in, found_in_range, some_in_range, some_source}
 
 -- Sources above a level.
 pub above_is : (p : ProgramTree) (level : ℕ) (source : Source) → is_above p level source ≡ true → IsAbove p level source

@@ -19,7 +19,7 @@ use Rattle.firmware_layout.specs.Laws.{LayoutLevels, layout_with}
 use Rattle.firmware_layout.specs.Layouts.{event_level, has_lock}
 use Rattle.firmware_layout.specs.Pieces.{Makings, kind_of, plan_in}
 use Rattle.firmware_layout.specs.Sound.{AreMakings, IsMapIn}
-use Rattle.firmware_layout.proofs.EventFacts.{is_event, level_few, level_inside, level_outside, priority_none, priority_of_map, priority_real, real_event, sources_differ}
+use Rattle.firmware_layout.proofs.EventLaws.{is_event, level_few, level_inside, level_outside, priority_none, priority_of_map, priority_real, real_event, sources_differ}
 
 -- A run that is short, or without a lock, is of the highest level; one of the lowest of several is of level 1.
 abbrev kind_by : (below : Bool) → (lowest few : Bool) → Kind

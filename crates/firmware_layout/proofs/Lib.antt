@@ -1,11 +1,11 @@
 pub mod EnableLaws
-mod EventFacts
+pub mod EventLaws
 mod HeadFacts
 pub mod HeardLaws
 pub mod LevelLaws
 mod PieceFacts
 pub mod PlaceLaws
-mod RangeFacts
+pub mod RangeLaws
 mod RunFacts
 pub mod StandLaws
 pub mod StateLaws

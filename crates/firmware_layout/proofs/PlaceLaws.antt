@@ -19,7 +19,7 @@ use Rattle.firmware_layout.specs.Laws.{IsApart, LayoutPlaces, RunStands, SpotsRi
 use Rattle.firmware_layout.specs.Layouts.{boot_start, boot_turn, event_level, has_lock, head_end, lies, lies_in, spots_in}
 use Rattle.firmware_layout.specs.Pieces.{Makings, kind_of, plan_in}
 use Rattle.firmware_layout.specs.Sound.{AreMakings, IsCodeIn, IsMapIn}
-use Rattle.firmware_layout.proofs.EventFacts.{is_event, real_event, source_is}
+use Rattle.firmware_layout.proofs.EventLaws.{is_event, real_event, source_is}
 use Rattle.firmware_layout.proofs.RunFacts.{WindowStands}
 use Rattle.firmware_layout.proofs.StandLaws.{each-run-stands, run_window, runs-lie-apart, vector-of-code-stands}
 

@@ -30,7 +30,7 @@ use Rattle.firmware_layout.specs.Laws.{LayoutArranged, LayoutStates, LayoutTimes
 use Rattle.firmware_layout.specs.Pieces.{Makings}
 use Rattle.firmware_layout.specs.Sound.{AreMakings, IsMapIn}
 use Rattle.firmware_layout.proofs.EnableLaws.{layout-enables}
-use Rattle.firmware_layout.proofs.EventFacts.{is_event}
+use Rattle.firmware_layout.proofs.EventLaws.{is_event}
 use Rattle.firmware_layout.proofs.LevelLaws.{layout-levels}
 use Rattle.firmware_layout.proofs.PlaceLaws.{layout-places}
 use Rattle.firmware_layout.proofs.WriteLaws.{layout-writes}
@@ -49,7 +49,7 @@ name_there [] x = refl
 name_there (e ∷ es) zero = refl
 name_there (e ∷ es) (suc x) = name_there es x
 
-name_is : (f : Makings) (m : Map) → map event_of m.events ≡ f.p.events → (x : ℕ) → name_at m x ≡ event_name f.p x
+pub name_is : (f : Makings) (m : Map) → map event_of m.events ≡ f.p.events → (x : ℕ) → name_at m x ≡ event_name f.p x
 name_is f m named x = name_there m.events x ∙ ap (λ (es : List Event). name_of (slice_get es x)) named
 
 -- It names an event.

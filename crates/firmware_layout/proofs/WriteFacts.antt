@@ -34,7 +34,7 @@ use Rattle.firmware_layout.specs.Layouts.{is_changed, is_masked, is_of_work, is_
 use Rattle.firmware_layout.specs.Pieces.{Makings, kind_of, plan_in}
 use Rattle.firmware_layout.specs.Sound.{AreMakings, IsMoveIn, IsOutput}
 use Rattle.firmware_layout.proofs.LevelLaws.{short_is_highest, unlocked_is_highest}
-use Rattle.firmware_layout.proofs.RangeFacts.{found_in_range}
+use Rattle.firmware_layout.proofs.RangeLaws.{found_in_range}
 
 -- The class of an address: general bytes, 71h and 72h, 73h, operand bytes, registers of enables, PCLATH, ports; and all else.
 abbrev pub class_of : ℕ → ℕ

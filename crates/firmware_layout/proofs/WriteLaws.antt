@@ -35,7 +35,7 @@ use Rattle.firmware_layout.specs.Laws.{LayoutWrites, layout_with}
 use Rattle.firmware_layout.specs.Layouts.{event_level, has_lock, is_changed, is_masked, is_of_work, is_page, is_target, writes_in}
 use Rattle.firmware_layout.specs.Pieces.{Makings, kind_of, plan_in}
 use Rattle.firmware_layout.specs.Sound.{AreMakings, IsMapIn, IsMoveIn, ListsWritten}
-use Rattle.firmware_layout.proofs.EventFacts.{is_event, level_few, level_inside}
+use Rattle.firmware_layout.proofs.EventLaws.{is_event, level_few, level_inside}
 use Rattle.firmware_layout.proofs.HeardLaws.{is_heard}
 use Rattle.firmware_layout.proofs.WriteFacts.{IsCommonSaved, IsFrameByte, IsOutputPort, IsScratchByte, IsStateByte, MaskedTells, cell_class, class_of, class_operand, class_port, frame_class, frame_no_cell, frame_tells, frames_differ, masked_class, masked_tells, page_tells, scratch_below, scratch_class, state_class, states_no_scratch, target_tells, work_tells}
 
