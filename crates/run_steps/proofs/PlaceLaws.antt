@@ -138,7 +138,7 @@ module _ (paged : Bool) (program marks : ℕ → ℕ) where
       let two = lines_stand p q (line ∷ []) items (ends_one line never) room stands in (two.0.0, two.1)
 
   -- Work, whose items are instructions.
-  words_of_work : (items : List Item) → AllByRecursion IsInstruction items → words_in paged items ≡ length items
+  pub words_of_work : (items : List Item) → AllByRecursion IsInstruction items → words_in paged items ≡ length items
   words_of_work [] all = refl
   words_of_work (Ins i ∷ items) all = let rest = words_of_work items all.1 in omega (arith, rest)
   words_of_work (Mark m ∷ items) all = absurd all.0
@@ -216,12 +216,12 @@ module _ (plan : Plan) (rest : List Item) where
   abbrev start_items : List Item
   start_items = glue (Known 0) (entering_in plan)
 
-  abbrev locked_parts : List Item
+  abbrev pub locked_parts : List Item
   locked_parts =
       start_items ++ (item_of (Lower plan.source) ∷ Mark (mark (Again plan.event)) ∷ (glue plan.bank restarting ++ (item_of (Bit true place.Intcon GIE)
       ∷ (plan.work ++ (Mark (mark (Lock plan.event)) ∷ item_of (Bit false place.Intcon GIE) ∷ (test_items plan.event ++ rest))))))
 
-  locked_is : is_locked plan.kind ≡ true → working plan.kind plan.event plan.source (masks_in plan) (frame_in plan) plan.work plan.bank ++ rest ≡ locked_parts
+  pub locked_is : is_locked plan.kind ≡ true → working plan.kind plan.event plan.source (masks_in plan) (frame_in plan) plan.work plan.bank ++ rest ≡ locked_parts
   locked_is locked =
       let begin : glue plan.bank beginning ≡ glue plan.bank restarting ++ item_of (Bit true place.Intcon GIE) ∷ [] =
       ap (map item_of) (lines_then plan.bank restarting (Make true place.Intcon GIE ∷ [])) ∙ map-append item_of (lines_in plan.bank restarting) (Bit true place.Intcon GIE ∷ []) in
@@ -231,11 +231,11 @@ module _ (plan : Plan) (rest : List Item) where
       ∙ ap (λ begun. (start_items ++ item_of (Lower plan.source) ∷ []) ++ (Mark (mark (Again plan.event)) ∷ (begun ++ (plan.work ++ lock_items plan.event)))) begin)
       ∙ simp append_assoc
 
-  abbrev long_parts : List Item
+  abbrev pub long_parts : List Item
   long_parts =
       start_items ++ (item_of (Lower plan.source) ∷ item_of (Bit true place.Intcon GIE) ∷ (plan.work ++ (item_of (Bit false place.Intcon GIE) ∷ rest)))
 
-  long_is : plan.kind ≡ Long → working plan.kind plan.event plan.source (masks_in plan) (frame_in plan) plan.work plan.bank ++ rest ≡ long_parts
+  pub long_is : plan.kind ≡ Long → working plan.kind plan.event plan.source (masks_in plan) (frame_in plan) plan.work plan.bank ++ rest ≡ long_parts
   long_is long =
       ap (λ items. items ++ rest)
       (long_apart plan.kind long ∙ ap (λ start. long_items start plan.work) (starting_items plan))
@@ -248,10 +248,10 @@ module _ (plan : Plan) (rest : List Item) where
       long_apart Bottom long = absurd (cc)
       long_apart Middle long = absurd (cc)
 
-  abbrev short_parts : List Item
+  abbrev pub short_parts : List Item
   short_parts = plan.work ++ (map item_of (before_flag plan) ++ (item_of (Lower plan.source) ∷ rest))
 
-  short_is : plan.kind ≡ Short → working plan.kind plan.event plan.source (masks_in plan) (frame_in plan) plan.work plan.bank ++ rest ≡ short_parts
+  pub short_is : plan.kind ≡ Short → working plan.kind plan.event plan.source (masks_in plan) (frame_in plan) plan.work plan.bank ++ rest ≡ short_parts
   short_is short =
       ap (λ items. items ++ rest)
       (short_apart plan.kind short
