@@ -134,7 +134,6 @@ needs_where p level its =
     some_source (λ source. not ((enable_of source).address == 0x00B) && is_above p level source) its.0
     (and_from (not ((enable_of its.0).address == 0x00B)) (is_above p level its.0) (is_peripheral_where its.0 its.1) (is_above_where p level its.0 its.2))
 
-
 intcon_heard : (p : ProgramTree) (level k : ℕ) → (k ≡ 6 → ⊥)
     → (bit_at (num (with_bit 6 (needs_peie p level) (enables_in p level 0x00B))) k ≡ 1) ↔ Enabling p level 0x00B k
 intcon_heard p level k never =

@@ -3,6 +3,7 @@ pub mod EventLaws
 mod HeadFacts
 pub mod HeardLaws
 pub mod LevelLaws
+pub mod MadeLaws
 mod PieceFacts
 pub mod PlaceLaws
 pub mod RangeLaws

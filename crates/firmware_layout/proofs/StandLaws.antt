@@ -227,8 +227,8 @@ module _ (f : Makings) (program marks : ℕ → ℕ) (made : AreMakings f) (code
       let before = before_ready_words paged (lines_of_boot f) (taking_of f) in
       let whole = subst (λ items. Stands paged program marks (at k) items ((at k + words_in paged (boot_of f)) % 8192)) (boot_parts paged (lines_of_boot f) (taking_of f)) boot_stands.stands in
       let ready = stands-mark paged program marks (at k) ((at k + words_in paged (boot_of f)) % 8192) (mark Ready) (before_ready paged (lines_of_boot f) (taking_of f))
-          (goto paged (lines_of_boot f) (taking_of f) ∷ [])
-          (omega (arith, top, fits, words)) (before_ready_ends paged (lines_of_boot f) (taking_of f)) whole in
+      (goto paged (lines_of_boot f) (taking_of f) ∷ [])
+      (omega (arith, top, fits, words)) (before_ready_ends paged (lines_of_boot f) (taking_of f)) whole in
       omega (arith, ready, before, there, top, fits, words)
 
   vector_stands : VectorStands f program marks

@@ -2,6 +2,7 @@
 ghost use Rattle.std.specs.Prelude.{ℕ, List as Items};
 ghost use Rattle.frp_tree.specs.Tree.{ProgramTree};
 ghost use Rattle.map_file.specs.declared.maps.Map.{Map as AnyMap};
+ghost use Rattle.firmware_layout.specs.Made.{IsMaking};
 ghost use Rattle.firmware_layout.specs.Laws.{EachRunStands, IsHeard, LayoutArranged, LayoutEnables, LayoutLevels, LayoutPlaces, LayoutStates, LayoutTimes, LayoutWrites, RunsLieApart, VectorOfCodeStands};
 ghost use Rattle.firmware_layout.specs.Pieces.{Makings};
 
@@ -59,4 +60,9 @@ pub fn layout_times()
 /// program.
 pub fn layout_arranged()
     ensures { (f : Makings) (program marks : ℕ → ℕ) (m : AnyMap) (initial : Items ℕ) → LayoutArranged f program marks m initial }
+{}
+
+/// Where each piece of firmware does its own, its pieces can be put together: the laws above hold of them.
+pub fn is_making()
+    ensures { (f : Makings) → IsMaking f }
 {}

@@ -5,6 +5,7 @@
 mod laws;
 
 pub use laws::{
-    each_run_stands, is_heard, layout_arranged, layout_enables, layout_levels, layout_places,
-    layout_states, layout_times, layout_writes, runs_lie_apart, vector_of_code_stands,
+    each_run_stands, is_heard, is_making, layout_arranged, layout_enables, layout_levels,
+    layout_places, layout_states, layout_times, layout_writes, runs_lie_apart,
+    vector_of_code_stands,
 };
