@@ -1,3 +1,4 @@
+pub mod BoundLaws
 mod ClauseFacts
 mod CostFacts
 mod FewFacts
