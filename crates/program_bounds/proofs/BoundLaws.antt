@@ -1,4 +1,5 @@
--- The bound on the steps until all has settled is a number of 32 bits, for every program within the limits of counts.
+-- Within the limits of counts the words of the runs of all events are few, and the bound on the steps until all has settled is a number
+-- of 32 bits.
 use Rattle.std.specs.Prelude.{ℕ, ◌+◌, ◌*◌, ◌^◌, ◌<◌, ◌≤◌, sum_by}
 use Rattle.std.proofs.Common.{arith}
 use Rattle.frp_tree.specs.declared.syntax.Event.{Event}
@@ -36,3 +37,11 @@ settle-few p formed =
     let each : (e : Event) → 3 * body p e.name + 4 * off p ≤ 9900000 = λ e. let own = body-few p formed e.name in omega (arith, own, states, events, outputs) in
     let all = sum-few (λ (e : Event). 3 * body p e.name + 4 * off p) 9900000 each p.events in
     omega (arith, all, states, events, setups)
+
+-- What an event's run moves counts at most so much.
+pub words-few : (p : ProgramTree) → IsWellFormed p → (copied : ℕ) → copied ≤ 2048 → sum_by (λ (e : Event). 128 + body p e.name + copied) p.events ≤ 40000000
+words-few p formed copied few =
+    let most : (e : Event) → 128 + body p e.name + copied ≤ 3279744 = λ e. let own = body-few p formed e.name in omega (arith, own, few) in
+    let all = sum-few (λ (e : Event). 128 + body p e.name + copied) 3279744 most p.events in
+    let events = formed.written.events in
+    omega (arith, all, events)

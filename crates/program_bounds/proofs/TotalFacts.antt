@@ -12,6 +12,7 @@ use Rattle.program_bounds.specs.declared.bounds.Totals.{Totals}
 use Rattle.program_bounds.specs.declared.costs.Costs.{Costs}
 use Rattle.program_bounds.specs.Bounded.{AreCosts}
 use Rattle.program_bounds.specs.Sized.{AreTotals, AreTotalsOf}
+use Rattle.program_bounds.proofs.BoundLaws.{words-few}
 use Rattle.program_bounds.proofs.FewFacts.{body-few, scratch-few}
 use Rattle.program_bounds.proofs.SumFacts.{greatest-few, greatest-more, sum-few, sum-more, sum-within}
 
@@ -22,14 +23,11 @@ module _ (p : ProgramTree) (formed : IsWellFormed p) (copied off : ℕ) (few_cop
   abbrev steps-of : Event → ℕ
   steps-of e = 3 * body p e.name + 4 * off
 
-  few-words : (e : Event) → words-of e ≤ 3279744
-  few-words e = let few = body-few p formed e.name in omega (arith, few, few_copied)
-
   few-steps : (e : Event) → steps-of e ≤ 9849088
   few-steps e = let few = body-few p formed e.name in omega (arith, few, few_off)
 
   all-words-few : sum_by words-of p.events ≤ 40000000
-  all-words-few = let all = sum-few words-of 3279744 few-words p.events in let events = formed.written.events in omega (arith, all, events)
+  all-words-few = words-few p formed copied few_copied
 
   all-steps-few : sum_by steps-of p.events ≤ 110000000
   all-steps-few = let all = sum-few steps-of 9849088 few-steps p.events in let events = formed.written.events in omega (arith, all, events)
