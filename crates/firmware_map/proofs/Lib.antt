@@ -7,5 +7,6 @@ pub mod NameFacts
 pub mod PortFacts
 pub mod RangeFacts
 pub mod RowFacts
+pub mod SpelledLaws
 pub mod StateFacts
 pub mod WrittenFacts
