@@ -1,15 +1,14 @@
 -- Where cells hold the bytes of the initial state, the state that is read off them is the initial one.
-use Rattle.std.proofs.Common.{◌≡◌, ℕ, zero, suc, ◌+◌, ◌*◌, ◌/◌, ◌%◌, ◌<◌, ◌≤◌, Some, List, [], ◌∷◌, ◌++◌, filter, get_or, if◌then◌else◌, length, map, refl, sym, ap, ap₂, subst, ◌∙◌, arith, length-append, lit<}
+use Rattle.std.proofs.Common.{◌≡◌, ℕ, zero, suc, ◌+◌, ◌*◌, ◌/◌, ◌%◌, ◌<◌, Some, List, [], ◌∷◌, ◌++◌, filter, get_or, if◌then◌else◌, length, map, refl, sym, ap, ap₂, subst, ◌∙◌, arith, length-append, lit<}
 use Rattle.std.specs.List.{AllByRecursion}
 use Rattle.std.proofs.lemmas.List.{get_or-append-add, get_or_append_left}
 use Rattle.frp_tree.specs.declared.syntax.Ty.{Ty}
 use Rattle.frp_tree.specs.declared.syntax.Ty.TheVariants.{Bool as BoolTy, U8, U16}
 use Rattle.frp_tree.specs.Tree.{BehaviourTree, Plain, Input, Table, Reactive, DeclTree, ProgramTree}
-use Rattle.efrp_meaning.specs.Bounds.{bytes_in, state_bytes, type_bytes}
-use Rattle.efrp_meaning.specs.Decls.{is_reactive, reactive_decls}
+use Rattle.efrp_meaning.specs.Bounds.{bytes_in, type_bytes}
+use Rattle.efrp_meaning.specs.Decls.{is_reactive}
 use Rattle.efrp_meaning.specs.Meaning.{initial_state}
 use Rattle.efrp_meaning.specs.States.{AreValuesOf, IsState}
-use Rattle.efrp_meaning.specs.Values.{modulus}
 use Rattle.pic_regs.specs.Bytes.{Byte, bits, num}
 use Rattle.pic_regs.proofs.ByteLaws.{num-bits}
 use Rattle.byte_ops.specs.Cells.{held}
@@ -17,7 +16,6 @@ use Rattle.expr_lower.specs.Nodes.{new_pair}
 use Rattle.expr_lower.specs.Numbered.{state_cells}
 use Rattle.expr_lower.specs.Places.{is_wide}
 use Rattle.bank_alloc.specs.declared.needs.Needs.{Needs}
-use Rattle.bank_alloc.specs.Addresses.{address_of}
 use Rattle.isr_vector.specs.Booting.{bytes_of_state, bytes_of_value, bytes_of_values, first_bytes}
 use Rattle.isr_vector.proofs.StateLaws.{first-is, state-bytes}
 use Rattle.event_code.specs.States.{state_in}

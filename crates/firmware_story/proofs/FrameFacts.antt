@@ -1,5 +1,5 @@
 -- Of enables that are cleared some bit is set. What a run saves lies in its frame, and the work of a short run leaves its frame.
-use Rattle.std.proofs.Common.{◌≡◌, ℕ, ◌+◌, ◌-◌, ◌<◌, ◌≤◌, ◌==◌, ◌&&◌, ◌||◌, Bool, true, false, not, nat_le, if◌then◌else◌, Some, length, refl, sym, ap, subst, ◌∙◌, arith, inl, inr}
+use Rattle.std.proofs.Common.{◌≡◌, ℕ, ◌-◌, ◌<◌, ◌==◌, ◌&&◌, ◌||◌, Bool, true, false, not, if◌then◌else◌, length, refl, sym, ap, ◌∙◌, arith, inl, inr}
 use Rattle.std.specs.Prelude.{◌⊎◌}
 use Rattle.std.specs.Option.{ForSome}
 use Rattle.std.proofs.lemmas.Bool.{and_parts, eq-eqb, eqb-true, or_cases, or_left, or_right}
@@ -22,12 +22,9 @@ use Rattle.scratch_commit.specs.declared.kinds.Kind.TheVariants.{Short, Long, Bo
 use Rattle.scratch_commit.specs.Frames.{frame_of, is_between, is_byte, is_in_frame, is_over_runs, wanted}
 use Rattle.scratch_commit.specs.Masks.{masks_of, no_masks, saved_of}
 use Rattle.scratch_commit.specs.Plans.{context_in, frame_in, is_short, masks_in}
-use Rattle.run_steps.specs.Premises.{InFrame, IsFrameIn, Spares}
-use Rattle.firmware_parts.specs.Layout.{Layout}
-use Rattle.firmware_parts.specs.Layout.Part.{Work}
-use Rattle.firmware_promises.specs.MapNames.{is_listed}
+use Rattle.run_steps.specs.Premises.{IsFrameIn, Spares}
 use Rattle.firmware_layout.specs.Laws.{layout_with}
-use Rattle.firmware_layout.specs.Layouts.{has_lock, is_changed, is_of_work, is_page, is_scratch, writes_in}
+use Rattle.firmware_layout.specs.Layouts.{has_lock, is_changed, is_of_work, is_page, is_scratch}
 use Rattle.firmware_layout.specs.Pieces.{Makings, kind_of, plan_in}
 use Rattle.firmware_layout.specs.Sound.{AreMakings}
 use Rattle.firmware_layout.proofs.RangeLaws.{found_in_range}

@@ -19,21 +19,20 @@ use Rattle.glue_steps.specs.Still.{MayWrite, is_glue_reg, is_still}
 use Rattle.glue_parts.specs.declared.kept.TheConstants.{REDO, SAVED_PCLATH, SAVED_STATUS}
 use Rattle.glue_parts.specs.declared.moves.Move.{Move}
 use Rattle.firmware_promises.specs.Firmware.{is_at}
-use Rattle.firmware_promises.specs.MapNames.{is_listed}
 use Rattle.isr_vector.proofs.ListLaws.{all_before, all_both, at_event}
 use Rattle.scratch_commit.specs.declared.frames.Frame.{Frame}
-use Rattle.scratch_commit.specs.Deeds.{Change, Choose, Copy, Deed, Make, Pause, Write}
+use Rattle.scratch_commit.specs.Deeds.{Change, Choose, Deed, Make, Pause}
 use Rattle.scratch_commit.specs.Frames.{bringing, byte_of_frame, is_between, is_in_frame, is_over_runs, saving, saving_context, saving_enables, unmasking, wanted}
-use Rattle.scratch_commit.specs.Masks.{masking, saved_of, set_again, unmask_bit, unmask_register}
-use Rattle.scratch_commit.specs.Plans.{Plan, clearing_page, context_in, frame_in, going_home, is_short, masks_in, over_idle}
+use Rattle.scratch_commit.specs.Masks.{masking, set_again, unmask_bit, unmask_register}
+use Rattle.scratch_commit.specs.Plans.{Plan, clearing_page, frame_in, going_home, is_short, masks_in, over_idle}
 use Rattle.scratch_commit.specs.Windows.{copying, window}
-use Rattle.firmware_parts.specs.Layout.{Layout, Part}
-use Rattle.firmware_parts.specs.Layout.Part.{Begin, Commit, Copying, Exit, Lock, Start, Work}
+use Rattle.firmware_parts.specs.Layout.{Layout}
+use Rattle.firmware_parts.specs.Layout.Part.{Commit, Copying, Exit, Start, Work}
 use Rattle.run_steps.specs.Deeds.{DeedStill}
 use Rattle.run_steps.specs.Premises.{InFrame, May, MayBeWritten, MayDo}
 use Rattle.run_steps.specs.Spots.{returning_in}
 use Rattle.firmware_layout.specs.Laws.{layout_with}
-use Rattle.firmware_layout.specs.Layouts.{has_lock, is_changed, is_masked, is_of_work, is_page, is_target, writes_in}
+use Rattle.firmware_layout.specs.Layouts.{has_lock, is_changed, is_masked, is_of_work, is_page, is_target}
 use Rattle.firmware_layout.specs.Pieces.{Makings, kind_of, plan_in}
 use Rattle.firmware_layout.specs.Sound.{AreMakings, IsCellBelow, IsMoveIn, IsOutput}
 use Rattle.firmware_story.proofs.FrameFacts.{bit_changes, is_frame, unset_changes}
@@ -228,8 +227,8 @@ module _ (f : Makings) (program marks : ℕ → ℕ) (m : Map) (making : AreMaki
         (
           pie2_may frame.pie2 refl,
           all_both (DeedStill (May l (Exit e))) t0 (int ++ peie) (again_may 5 (bit 5 (bits cleared)) (bit 5 (bits beneath)) frame.intcon refl refl refl)
-          (all_both (DeedStill (May l (Exit e))) int peie (again_may 4 (bit 4 (bits cleared)) (bit 4 (bits beneath)) frame.intcon refl refl refl)
-          (again_may 6 (bit 6 (bits cleared)) (bit 6 (bits beneath)) frame.intcon refl refl refl)),
+              (all_both (DeedStill (May l (Exit e))) int peie (again_may 4 (bit 4 (bits cleared)) (bit 4 (bits beneath)) frame.intcon refl refl refl)
+              (again_may 6 (bit 6 (bits cleared)) (bit 6 (bits beneath)) frame.intcon refl refl refl)),
         ),
       )
 

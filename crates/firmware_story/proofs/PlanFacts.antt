@@ -1,5 +1,5 @@
 -- The plan of an event's run is that of its layout, and its places lie in its parts.
-use Rattle.std.proofs.Common.{◌≡◌, ℕ, ◌+◌, ◌<◌, ◌≤◌, ◌==◌, ◌&&◌, Bool, true, false, nat_le, nat_lt, if◌then◌else◌, length, refl, sym, ap, ◌∙◌, arith}
+use Rattle.std.proofs.Common.{◌≡◌, ℕ, ◌+◌, ◌<◌, ◌≤◌, ◌==◌, ◌&&◌, Bool, true, false, nat_le, nat_lt, if◌then◌else◌, length, refl, sym, arith}
 use Rattle.std.proofs.lemmas.Bool.{and_from, eq-eqb, le-leb, lt-ltb, ltb-true, or_left, or_right}
 use Rattle.efrp_meaning.specs.Bounds.{levels}
 use Rattle.map_file.specs.declared.maps.Map.{Map}
@@ -11,7 +11,7 @@ use Rattle.scratch_commit.specs.declared.kinds.Kind.{Kind}
 use Rattle.scratch_commit.specs.declared.kinds.Kind.TheVariants.{Short, Long, Bottom, Middle}
 use Rattle.scratch_commit.specs.Plans.{Plan, is_short}
 use Rattle.run_steps.specs.Premises.{AreSpotsOf, IsPlanOf, LieInParts}
-use Rattle.run_steps.specs.Spots.{Spots, is_locked, spots_by, spots_of}
+use Rattle.run_steps.specs.Spots.{Spots, is_locked, spots_by}
 use Rattle.firmware_parts.specs.Layout.{Layout}
 use Rattle.firmware_parts.specs.Layout.Part.{Begin}
 use Rattle.firmware_parts.specs.Times.{short_work}

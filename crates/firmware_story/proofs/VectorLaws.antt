@@ -1,7 +1,7 @@
 -- The vector of firmware stands where the layout says, and is the program's.
-use Rattle.std.proofs.Common.{◌≡◌, ℕ, zero, suc, ◌+◌, ◌%◌, ◌<◌, ◌≤◌, ◌&&◌, ◌||◌, Bool, true, false, nat_le, nat_lt, Option, Some, None, List, [], ◌∷◌, ◌++◌, drop, length, slice_get, refl, sym, ap, subst, ◌∙◌, arith}
+use Rattle.std.proofs.Common.{◌≡◌, ℕ, suc, ◌+◌, ◌%◌, ◌<◌, ◌≤◌, ◌&&◌, Bool, true, false, nat_le, Option, Some, None, List, [], ◌∷◌, length, slice_get, refl, sym, ap, subst, ◌∙◌, arith}
 use Rattle.std.specs.List.{AllByRecursion}
-use Rattle.std.proofs.lemmas.Bool.{and_from, le-leb, lt-ltb, or_left, or_right}
+use Rattle.std.proofs.lemmas.Bool.{le-leb, or_left, or_right}
 use Rattle.std.proofs.lemmas.List.{length-drop}
 use Rattle.frp_tree.specs.declared.syntax.Setup.{Setup}
 use Rattle.efrp_meaning.specs.Bounds.{state_bytes}
@@ -30,14 +30,16 @@ use Rattle.isr_vector.proofs.UrgencyLaws.{order-length}
 use Rattle.firmware_parts.specs.Layout.{Layout}
 use Rattle.vector_steps.specs.Standing.{HasVector}
 use Rattle.firmware_layout.specs.Heard.{heard}
-use Rattle.firmware_layout.specs.Laws.{RunStands, VectorStands, layout_with}
+use Rattle.firmware_layout.specs.Laws.{VectorStands, layout_with}
 use Rattle.firmware_layout.specs.Layouts.{boot_start, boot_turn, head_end, lies, spots_in}
 use Rattle.firmware_layout.specs.Pieces.{Makings, lines_of_boot, taking_of}
 use Rattle.firmware_layout.specs.Sound.{AreMakings, IsCodeIn, IsMapIn}
 use Rattle.firmware_layout.proofs.EventLaws.{level_inside, level_outside}
 use Rattle.firmware_layout.proofs.HeardLaws.{is_heard}
+use Rattle.firmware_layout.proofs.MadeLaws.{is_making}
 use Rattle.firmware_layout.proofs.StandLaws.{each-run-stands, entry_is, vector-of-code-stands}
 use Rattle.firmware_layout.proofs.StateLaws.{layout-states}
+use Rattle.firmware_story.specs.Laws.{VectorIsHad}
 use Rattle.firmware_story.proofs.FirstFacts.{first_state_read}
 use Rattle.firmware_story.proofs.PlanFacts.{inside_lies}
 
@@ -124,7 +126,7 @@ module _ (f : Makings) (program marks : ℕ → ℕ) (m : Map) (initial : List �
       all_both (λ (w : Write). MayWrite (Listed f m) (reg_of w.place)) (cell_writes f.need 0 (first_bytes f.p)) (setup_writes f.p.setups)
       (cells_may f m (state_bytes f.p) 0 (first_bytes f.p) map_in.lists.states (omega (arith, many))) (setups_may f m f.p.setups map_in.lists.setups)
 
-  pub has_vector : HasVector f.p f.need f.spread (layout_with f program marks m) initial
+  has_vector : HasVector f.p f.need f.spread (layout_with f program marks m) initial
   has_vector = record {
     typed = types.0;
     setups = types.1;
@@ -163,3 +165,6 @@ module _ (f : Makings) (program marks : ℕ → ℕ) (m : Map) (initial : List �
     may_pclath = λ saves. refl;
     may_page = λ paged. ap (λ b. b && true) paged;
   }
+
+pub vector-is-had : (f : Makings) (program marks : ℕ → ℕ) (m : Map) (initial : List ℕ) → VectorIsHad f program marks m initial
+vector-is-had f program marks m initial made code map_in begins = has_vector f program marks m initial (is_making f made) code map_in begins
