@@ -1,19 +1,18 @@
 -- How many lines the deeds of a run have, and that their constants and bits are in range.
-use Rattle.std.proofs.Common.{◌≡◌, ℕ, ◌+◌, ◌*◌, ◌<◌, ◌≤◌, ◌==◌, Bool, true, false, if◌then◌else◌, Option, Some, None, List, [], ◌∷◌, ◌++◌, length, refl, sym, ap, subst, append-nil, arith, lit<}
+use Rattle.std.proofs.Common.{◌≡◌, ℕ, ◌+◌, ◌*◌, ◌<◌, ◌≤◌, Bool, true, false, if◌then◌else◌, Option, Some, None, List, [], ◌∷◌, ◌++◌, length, refl, sym, subst, append-nil, arith, lit<}
 use Rattle.pic_isa.specs.declared.bits.TheConstants.{GIE, INTE, PEIE, T0IE}
 use Rattle.pic_isa.specs.declared.sources.Source.{Source}
 use Rattle.pic_regs.specs.declared.places.Place.{Place}
 use Rattle.pic_regs.specs.declared.places.Place.TheVariants as place
 use Rattle.pic_regs.specs.Bytes.{bit, bits}
 use Rattle.code_steps.specs.declared.banks.Bank.{Bank}
-use Rattle.glue_steps.specs.declared.lines.Line.{Line}
 use Rattle.glue_steps.specs.declared.lines.Line.TheVariants.{Bit, Nothing}
 use Rattle.glue_parts.specs.declared.kept.TheConstants.{REDO, SAVED_PCLATH, SAVED_STATUS}
 use Rattle.glue_parts.specs.declared.moves.Move.{Move}
 use Rattle.glue_parts.specs.Pieces.{lines_to_skip}
 use Rattle.scratch_commit.specs.declared.frames.Frame.{Frame}
 use Rattle.scratch_commit.specs.declared.kinds.Kind.{Kind}
-use Rattle.scratch_commit.specs.Deeds.{Change, Choose, Copy, Deed, LowerFlag, Make, Pause, SetIf, Write, bank_behind, bank_past, lines_in, lines_of}
+use Rattle.scratch_commit.specs.Deeds.{Change, Choose, Copy, Deed, LowerFlag, Make, Pause, SetIf, Write, bank_past, lines_in, lines_of}
 use Rattle.scratch_commit.specs.Frames.{bringing, bringing_back, is_between, saving, saving_context, saving_enables, unmasking}
 use Rattle.scratch_commit.specs.Masks.{mask_bit, masking, set_again, unmask_bit, unmask_register}
 use Rattle.scratch_commit.specs.Plans.{Plan, beginning, clearing_page, entering, going_home, masks_in, returning, starting}

@@ -1,5 +1,5 @@
 -- The run of an event has 108 items more than its work, and 6 for each byte that its window moves, with two jumps among them.
-use Rattle.std.proofs.Common.{◌≡◌, ℕ, ◌+◌, ◌*◌, ◌≤◌, ◌&&◌, Bool, true, false, not, List, [], ◌∷◌, ◌++◌, length, refl, arith, lit<}
+use Rattle.std.proofs.Common.{ℕ, ◌+◌, ◌*◌, ◌&&◌, Bool, true, false, not, List, [], ◌∷◌, ◌++◌, length, arith, lit<}
 use Rattle.pic_isa.specs.declared.bits.TheConstants.{GIE}
 use Rattle.pic_isa.specs.declared.instructions.Instr.TheVariants.{Retfie}
 use Rattle.pic_isa.specs.declared.sources.Source.{Source}

@@ -1,5 +1,5 @@
 -- How many items the head and the rest of the boot have, and that their fields are in range.
-use Rattle.std.proofs.Common.{◌≡◌, ℕ, zero, suc, ◌+◌, ◌-◌, ◌*◌, ◌<◌, ◌≤◌, Bool, true, false, if◌then◌else◌, Option, Some, None, List, [], ◌∷◌, ◌++◌, length, map, take, drop, replicate, min, refl, sym, ap, subst, ◌∙◌, arith, length-append, length-take, length-drop, lit<}
+use Rattle.std.proofs.Common.{ℕ, zero, suc, ◌+◌, ◌-◌, ◌*◌, ◌<◌, ◌≤◌, Bool, true, false, if◌then◌else◌, Option, Some, None, List, [], ◌∷◌, ◌++◌, length, map, take, drop, replicate, sym, subst, arith, length-take, lit<}
 use Rattle.std.specs.List.{AllByRecursion}
 use Rattle.frp_tree.specs.declared.syntax.Setup.{Setup}
 use Rattle.frp_tree.specs.Tree.{ProgramTree}
@@ -12,7 +12,6 @@ use Rattle.pic_isa.specs.Names.{register_at}
 use Rattle.pic_regs.specs.declared.places.Place.TheVariants as place
 use Rattle.pic_regs.specs.Bytes.{bit, bits}
 use Rattle.bank_alloc.specs.declared.needs.Needs.{Needs}
-use Rattle.bank_alloc.specs.Addresses.{address_of}
 use Rattle.priority_masks.specs.declared.tables.Enables.{Enables}
 use Rattle.code_steps.specs.declared.banks.Bank.{Bank}
 use Rattle.code_steps.specs.declared.banks.Bank.TheVariants.{Known}
@@ -20,18 +19,17 @@ use Rattle.code_acts.specs.Codes.{moved}
 use Rattle.code_items.specs.declared.items.Item.{Item}
 use Rattle.code_items.specs.declared.items.Item.TheVariants.{Ins, Jump, Mark}
 use Rattle.glue_steps.specs.declared.lines.Line.{Line}
-use Rattle.glue_steps.specs.declared.lines.Line.TheVariants.{Bit, Clear, Load, Lower, Nothing, Store}
-use Rattle.glue_steps.specs.Choices.{FlagTest, skip_of, test_items}
+use Rattle.glue_steps.specs.declared.lines.Line.TheVariants.{Bit, Lower, Nothing}
+use Rattle.glue_steps.specs.Choices.{skip_of}
 use Rattle.glue_steps.specs.Lines.{LineFits, item_of}
 use Rattle.glue_steps.proofs.LineLaws.{fields_fit}
 use Rattle.glue_parts.specs.declared.spread.Context.{Context}
 use Rattle.glue_parts.specs.Marks.{Boot, Entry, Ready, mark}
 use Rattle.glue_parts.specs.Pieces.{bank_changed, lines_to_change, lines_to_choose, lines_to_write}
-use Rattle.glue_parts.specs.Places.{bank_of, named}
-use Rattle.pic_regs.specs.Map.{reg_at}
+use Rattle.glue_parts.specs.Places.{bank_of}
 use Rattle.pic_regs.specs.Places.{reg_of}
-use Rattle.isr_vector.specs.Booting.{Write, bank_written, boot_lines, boot_writes, cell_writes, enable_line, enable_lines, filled, first_bytes, lines_of_writes, setup_writes, write_at}
-use Rattle.isr_vector.specs.Taking.{all_but_last, choice, context_saved, last_jump, pclath_saved, status_saved, taking_items, tests_of}
+use Rattle.isr_vector.specs.Booting.{Write, bank_written, boot_lines, boot_writes, cell_writes, enable_line, enable_lines, first_bytes, lines_of_writes, setup_writes, write_at}
+use Rattle.isr_vector.specs.Taking.{choice, context_saved, pclath_saved, status_saved, taking_items}
 use Rattle.isr_vector.specs.Vector.{boot_items, boot_place, head_items, own_goto, ready_place, turns_on}
 use Rattle.isr_vector.proofs.ListLaws.{all_both, all_dropped, all_taken}
 use Rattle.isr_vector.proofs.StateLaws.{first-is, state-bytes}

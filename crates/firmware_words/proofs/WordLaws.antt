@@ -1,8 +1,7 @@
 -- The code of firmware can be laid out, and has no more words than the program's bound.
-use Rattle.std.proofs.Common.{◌≡◌, ℕ, ◌+◌, ◌-◌, ◌*◌, ◌/◌, ◌%◌, ◌<◌, ◌≤◌, ◌^◌, Bool, true, false, if◌then◌else◌, List, [], ◌∷◌, ◌++◌, length, map, drop, reverse, replicate, sum_by, Some, refl, sym, ap, subst, ◌∙◌, arith, inl, inr, length-drop, lit<}
+use Rattle.std.proofs.Common.{◌≡◌, ℕ, ◌+◌, ◌-◌, ◌*◌, ◌/◌, ◌%◌, ◌<◌, ◌≤◌, ◌^◌, Bool, true, false, if◌then◌else◌, List, [], ◌∷◌, ◌++◌, length, map, drop, reverse, sum_by, Some, refl, sym, ap, subst, ◌∙◌, arith, inl, inr, length-drop, lit<}
 use Rattle.std.specs.Prelude.{◌⊎◌}
-use Rattle.std.specs.List.{AllByRecursion, range_with_len}
-use Rattle.std.proofs.lemmas.Bool.{cases_lt}
+use Rattle.std.specs.List.{AllByRecursion}
 use Rattle.std.proofs.lemmas.Bool.Decides.{eqb_tells}
 use Rattle.std.proofs.lemmas.List.{length-reverse}
 use Rattle.std.proofs.lemmas.List.Sums.{sum_by-cons}
@@ -13,7 +12,6 @@ use Rattle.efrp_types.specs.Laws.{HasTypes}
 use Rattle.efrp_types.specs.Numbers.{event_name}
 use Rattle.efrp_types.proofs.TypedLaws.{no-fault-is-typed}
 use Rattle.pic_isa.specs.declared.instructions.Instr.{Instr}
-use Rattle.pic_isa.specs.declared.instructions.Instr.TheVariants.{Nop}
 use Rattle.pic_isa.specs.Instructions.{FieldsFit}
 use Rattle.pic_isa.specs.declared.bits.TheConstants.{PEIE}
 use Rattle.pic_regs.specs.Bytes.{bit, bits}
@@ -21,14 +19,13 @@ use Rattle.pic_regs.proofs.ByteLaws.{num-below}
 use Rattle.pic_machine.specs.Exec.{field}
 use Rattle.bank_alloc.specs.Needs.{bytes_of}
 use Rattle.code_items.specs.declared.items.Item.{Item}
-use Rattle.code_items.specs.declared.items.Item.TheVariants.{Ins}
-use Rattle.code_items.specs.Items.{ItemFits, OnceEach, times, words_in}
+use Rattle.code_items.specs.Items.{times, words_in}
 use Rattle.code_items.specs.Places.{joined}
 use Rattle.code_items.proofs.ItemLaws.{times-append, words-append}
 use Rattle.glue_steps.specs.declared.lines.Line.{Line}
 use Rattle.glue_steps.specs.Lines.{LineFits}
 use Rattle.scratch_commit.specs.Masks.{masked, masks_of, no_masks, unmasked}
-use Rattle.scratch_commit.specs.Plans.{is_short, masks_in}
+use Rattle.scratch_commit.specs.Plans.{is_short}
 use Rattle.isr_vector.specs.Taking.{context_of}
 use Rattle.isr_vector.specs.Urgency.{by_urgency}
 use Rattle.isr_vector.specs.Vector.{boot_place, ready_place}
@@ -39,9 +36,9 @@ use Rattle.isr_vector.proofs.UrgencyLaws.{all-are_events, order-length}
 use Rattle.event_code.proofs.MoveLaws.{moves-few}
 use Rattle.program_bounds.proofs.BoundLaws.{states-few, words-few}
 use Rattle.firmware_layout.specs.Heard.{enables_in, heard}
-use Rattle.firmware_layout.specs.Made.{DoesEvent, IsMade, IsSpread, on_one_page}
-use Rattle.firmware_layout.specs.Pieces.{Makings, boot_of, filler_of, head_of, items_of, kind_of, lines_of_boot, plan_in, run_of, runs_of, taking_of}
-use Rattle.firmware_words.specs.Laws.{CanBeLaid, CodeCanBeLaid, WordsAreBounded}
+use Rattle.firmware_layout.specs.Made.{IsMade, on_one_page}
+use Rattle.firmware_layout.specs.Pieces.{Makings, boot_of, filler_of, head_of, items_of, lines_of_boot, plan_in, run_of, runs_of, taking_of}
+use Rattle.firmware_words.specs.Laws.{CodeCanBeLaid, WordsAreBounded}
 use Rattle.firmware_words.proofs.DeedFacts.{MasksFit}
 use Rattle.firmware_words.proofs.ItemFacts.{Sound, joined-last, sound_both, sound_instructions, sound_last, sound_none, sound_pauses, sound_wider, words-few as words_few}
 use Rattle.firmware_words.proofs.MarkFacts.{RunMarks, RunsMarks, boot-elsewhere, boot-once, head-unmarked, none_in_instructions, none_in_pauses, run-marks, runs-marks, taking-unmarked}
@@ -123,15 +120,15 @@ module _ (f : Makings) (made : IsMade f) where
       let beneath = heard-low f.p (plan.level - 1) in
       let zeros : (0 < 256) × (0 < 256) × (0 < 256) × (0 < 256) = (lit< tt, lit< tt, lit< tt, lit< tt) in
       let low =
-          either no_masks (λ m. (m.pie1.own < 256) × (m.pie2.own < 256) × (m.pie1.beneath < 256) × (m.pie2.beneath < 256)) (is_short plan.kind) no_masks (masks_of h) zeros
-          (either no_masks (λ m. (m.pie1.own < 256) × (m.pie2.own < 256) × (m.pie1.beneath < 256) × (m.pie2.beneath < 256)) (bit PEIE (bits h.own.intcon))
-          (record {
-            intcon = masked h.idle.intcon h.own.intcon h.beneath.intcon;
-            pie1 = masked h.idle.pie1 h.own.pie1 h.beneath.pie1;
-            pie2 = masked h.idle.pie2 h.own.pie2 h.beneath.pie2;
-          })
-          (record { intcon = masked h.idle.intcon h.own.intcon h.beneath.intcon; pie1 = unmasked; pie2 = unmasked })
-          (own.0, own.1, beneath.0, beneath.1) zeros) in
+      either no_masks (λ m. (m.pie1.own < 256) × (m.pie2.own < 256) × (m.pie1.beneath < 256) × (m.pie2.beneath < 256)) (is_short plan.kind) no_masks (masks_of h) zeros
+      (either no_masks (λ m. (m.pie1.own < 256) × (m.pie2.own < 256) × (m.pie1.beneath < 256) × (m.pie2.beneath < 256)) (bit PEIE (bits h.own.intcon))
+      (record {
+        intcon = masked h.idle.intcon h.own.intcon h.beneath.intcon;
+        pie1 = masked h.idle.pie1 h.own.pie1 h.beneath.pie1;
+        pie2 = masked h.idle.pie2 h.own.pie2 h.beneath.pie2;
+      })
+      (record { intcon = masked h.idle.intcon h.own.intcon h.beneath.intcon; pie1 = unmasked; pie2 = unmasked })
+      (own.0, own.1, beneath.0, beneath.1) zeros) in
       record { own1 = low.0; own2 = low.1; beneath1 = low.2; beneath2 = low.3 }
 
   work_sound : (event : ℕ) → event < count → Sound (body f.p (event_name f.p event)) 0 (f.work event)
@@ -300,11 +297,11 @@ module _ (f : Makings) (made : IsMade f) where
       elim (eqb_tells (m / 16) 3) [
         | inl at ↦ let never = runs.none at.1 in omega (arith, boots, never)
         | inr differ ↦
-          let never = boot-elsewhere m paged lines (taking_of f) differ.1 in
-          let within = runs.once in
-          let same = reverse-sum (is_it (m % 16)) order in
-          let once = once-in-order f.p (m % 16) in
-          omega (arith, never, within, same, once)
+            let never = boot-elsewhere m paged lines (taking_of f) differ.1 in
+            let within = runs.once in
+            let same = reverse-sum (is_it (m % 16)) order in
+            let once = once-in-order f.p (m % 16) in
+            omega (arith, never, within, same, once)
       ]
 
   once_by : (m : ℕ) (b : Bool) → times m (joined (if b then head_of f ∷ boot_of f ∷ (runs_of f ++ filler_of f ∷ []) else head_of f ∷ (runs_of f ++ boot_of f ∷ []))) < 2

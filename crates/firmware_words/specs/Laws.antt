@@ -1,5 +1,5 @@
 -- What the laws of `laws.rt` promise: that firmware's code can be laid out, and in how many words.
-use Rattle.std.specs.Prelude.{ℕ, ◌<◌, ◌≤◌, ◌^◌, length}
+use Rattle.std.specs.Prelude.{◌<◌, ◌≤◌, ◌^◌, length}
 use Rattle.std.specs.List.{AllByRecursion}
 use Rattle.efrp_meaning.specs.Bounds.{words_bound}
 use Rattle.code_items.specs.Items.{ItemFits, OnceEach, words_in}
