@@ -9,7 +9,7 @@ mod LockFacts
 mod MoveFacts
 pub mod PlaceLaws
 mod ReturnFacts
-mod RunLaws
+pub mod RunLaws
 mod SavedFacts
 mod ShortFacts
 mod SkipFacts
