@@ -1,3 +1,4 @@
+mod CodeFacts
 pub mod EnableLaws
 pub mod EventLaws
 mod HeadFacts

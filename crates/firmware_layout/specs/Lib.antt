@@ -1,3 +1,4 @@
+pub mod Codes
 pub mod Heard
 pub mod Laws
 pub mod Layouts
