@@ -187,6 +187,7 @@ impl Parts<'_> {
         Ok(code)
     }
 
+    // How far code is spread, with page settings or without: to cells outside bank 0 where the bytes don't fit into it.
     fn spread(&self, pages: bool) -> Spread
         ensures banks { result.banks ≡ nat_lt 80 (bytes_of self.now.places.now.need) }
         ensures pages { result.pages ≡ pages }
