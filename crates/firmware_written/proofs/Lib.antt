@@ -1,0 +1,7 @@
+mod CodeFacts
+mod FirmwareFacts
+mod LastFacts
+mod MapFacts
+mod NameFacts
+mod PremiseFacts
+mod WordFacts
