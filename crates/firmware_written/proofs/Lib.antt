@@ -1,7 +1,6 @@
 mod CodeFacts
-mod FirmwareFacts
+pub mod FirmwareLaws
 mod LastFacts
 mod MapFacts
 mod NameFacts
-mod PremiseFacts
 mod WordFacts

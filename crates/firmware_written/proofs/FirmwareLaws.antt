@@ -26,11 +26,14 @@ use Rattle.code_story.proofs.SimulatedLaws.{always_accounted, always_keeps, alwa
 use Rattle.firmware_layout.specs.Made.{IsMade, IsSpread}
 use Rattle.firmware_layout.specs.Pieces.{Makings, items_of}
 use Rattle.firmware_layout.specs.Sound.{AreMakings}
+use Rattle.firmware_layout.proofs.MadeLaws.{is_making}
+use Rattle.firmware_story.specs.Laws.{HasCode}
+use Rattle.firmware_story.proofs.CodeLaws.{firmware-has-code}
+use Rattle.firmware_words.proofs.WordLaws.{words-are-bounded}
 use Rattle.firmware_written.specs.Written.{IsLaidOut, IsMapped, IsWritten, WrittenIsFirmware, image_of}
 use Rattle.firmware_written.proofs.CodeFacts.{is_code}
 use Rattle.firmware_written.proofs.MapFacts.{few_bytes, fits_map, is_map_in, used_placed}
 use Rattle.firmware_written.proofs.NameFacts.{names_rightly}
-use Rattle.firmware_written.proofs.PremiseFacts.{HasCode, Premises}
 use Rattle.firmware_written.proofs.WordFacts.{words-below}
 
 -- A program that passes the checks has a first state.
@@ -61,7 +64,7 @@ promised p image m has maps =
     } in
     subst (λ n. Promised p image n) has.for_map (subst (λ q. Promised q image has.code.m) has.for_program all)
 
-module _ (premises : Premises) (f : Makings) (laid : Laid) (m : Map) (made : IsMade f) (spread : IsSpread f) (pages : f.spread.pages ≡ has_pages (items_of f)) (named : HasNames f.p)
+module _ (f : Makings) (laid : Laid) (m : Map) (made : IsMade f) (spread : IsSpread f) (pages : f.spread.pages ≡ has_pages (items_of f)) (named : HasNames f.p)
     (is : IsLaidOut f laid) (mapped : IsMapped f laid m) where
   abbrev image : Image
   image = image_of laid
@@ -70,7 +73,7 @@ module _ (premises : Premises) (f : Makings) (laid : Laid) (m : Map) (made : IsM
   its = made_of laid.marks (length laid.words) (settle_bound f.p)
 
   makings : AreMakings f
-  makings = premises.making f made
+  makings = is_making f made
 
   writable : IsWritable image
   writable = record { words = is.rise; config = lit< tt }
@@ -88,7 +91,7 @@ module _ (premises : Premises) (f : Makings) (laid : Laid) (m : Map) (made : IsM
       let depth = mapped.is_map.depth in
       let number = is.number in
       let same = ap (λ b. words_in b (items_of f)) pages in
-      let most = premises.words f made spread in
+      let most = words-are-bounded f made spread in
       let few = made.few in
       record {
         words = words;
@@ -103,7 +106,7 @@ module _ (premises : Premises) (f : Makings) (laid : Laid) (m : Map) (made : IsM
   kept : Promised f.p image m
   kept =
       let first = first_state f made in
-      let code = premises.code f (word_at laid.words) (places laid.marks) m first.0 made (is_code f laid makings pages is) (is_map_in f made laid m mapped) (words-below 0 laid.words is.rise) first.1 in
+      let code = firmware-has-code f (word_at laid.words) (places laid.marks) m first.0 made (is_code f laid makings pages is) (is_map_in f made laid m mapped) (words-below 0 laid.words is.rise) first.1 in
       promised f.p image m code (record { names = names; rules = rules })
 
   is_firmware : IsFirmware f.p (written image) (map_text m)
@@ -138,5 +141,5 @@ module _ (premises : Premises) (f : Makings) (laid : Laid) (m : Map) (made : IsM
   pub is_written : IsWritten f.p image m
   is_written = record { writable = writable; rules = rules; firmware = is_firmware; scheduled = is_scheduled }
 
-pub written-is_firmware : Premises → (f : Makings) (laid : Laid) (m : Map) → WrittenIsFirmware f laid m
-written-is_firmware premises f laid m made spread pages named is mapped = is_written premises f laid m made spread pages named is mapped
+pub written-is_firmware : (f : Makings) (laid : Laid) (m : Map) → WrittenIsFirmware f laid m
+written-is_firmware f laid m made spread pages named is mapped = is_written f laid m made spread pages named is mapped
