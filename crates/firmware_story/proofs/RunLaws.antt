@@ -39,11 +39,11 @@ module _ (f : Makings) (program marks : ℕ → ℕ) (m : Map) (made : IsMade f)
     planned = is_plan f program marks m making e real;
     spots = are_spots f program marks m making e real;
     lie = lie_in_parts f program marks m making e real;
+    times = fits_times f program marks m made making map_in e real;
     may = may_be_written f program marks m making e real;
     spares = spares f program marks m making e real;
     frame = is_frame f program marks m making e real;
     states = makes_states f program marks m making e real;
-    times = fits_times f program marks m made making map_in e real;
     most = body f.p (name_at m e);
     work = does_work f program marks m made making map_in e real;
   }
