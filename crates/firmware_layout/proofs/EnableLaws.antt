@@ -1,13 +1,12 @@
 -- At a level exactly the sources of the events above it are heard.
-use Rattle.std.proofs.Common.{◌≡◌, ℕ, zero, suc, ◌+◌, ◌<◌, ◌==◌, ◌&&◌, ◌||◌, Bool, true, false, if◌then◌else◌, length, refl, sym, ap, subst, ◌∙◌, arith, inl, inr, lit<}
-use Rattle.std.specs.Prelude.{◌⊎◌}
+use Rattle.std.proofs.Common.{◌≡◌, ℕ, ◌<◌, ◌==◌, ◌||◌, true, if◌then◌else◌, refl, sym, ap, subst, ◌∙◌, arith, inl, inr, lit<}
 use Rattle.std.specs.Int.{bit_at}
 use Rattle.std.proofs.lemmas.Bool.{and_from, and_parts, eqb-true}
 use Rattle.frp_tree.specs.Tree.{ProgramTree}
 use Rattle.pic_isa.specs.declared.sources.Source.{Source}
 use Rattle.pic_isa.specs.declared.sources.Source.TheVariants.{T0, Int, Psp, Ad, Ssp, Ccp1, Tmr2, Tmr1, Ee, Bcl, Ccp2}
 use Rattle.pic_isa.specs.declared.sources.BitAt.{BitAt}
-use Rattle.pic_isa.specs.Sources.{at, enable_of, source_name}
+use Rattle.pic_isa.specs.Sources.{enable_of}
 use Rattle.pic_regs.specs.Bytes.{bit, bits}
 use Rattle.pic_regs.specs.Registers.{bit_of}
 use Rattle.pic_regs.proofs.BitLaws.{bit-bits}
@@ -16,12 +15,10 @@ use Rattle.priority_masks.specs.declared.tables.Enables.{Enables}
 use Rattle.priority_masks.specs.Levels.{IsAbove}
 use Rattle.firmware_promises.specs.Urgent.{is_in_intcon}
 use Rattle.glue_parts.specs.Heard.{IsHeardAt, IsPeripheral}
-use Rattle.code_story.specs.Arranged.{EnablesAgree, is_heard_by}
+use Rattle.code_story.specs.Arranged.{is_heard_by}
 use Rattle.firmware_layout.specs.Heard.{heard}
 use Rattle.firmware_layout.specs.Laws.{LayoutEnables}
-use Rattle.firmware_layout.specs.Layouts.{event_level}
 use Rattle.firmware_layout.specs.Pieces.{Makings}
-use Rattle.firmware_layout.specs.Sound.{AreMakings}
 use Rattle.firmware_layout.proofs.EventLaws.{is_event, level_inside, source_is}
 use Rattle.firmware_layout.proofs.HeardLaws.{is_heard}
 

@@ -1,13 +1,12 @@
 -- The events of a program by their numbers: sources, priorities, levels, and what a map says of them.
-use Rattle.std.proofs.Common.{◌≡◌, ℕ, zero, suc, ◌+◌, ◌<◌, ◌≤◌, Bool, true, false, if◌then◌else◌, List, [], ◌∷◌, length, map, get_or, slice_get, Option, Some, None, refl, sym, ap, subst, ◌∙◌, arith, inl, inr}
-use Rattle.std.specs.Prelude.{◌⊎◌, nat_lt, position}
+use Rattle.std.proofs.Common.{◌≡◌, ℕ, zero, suc, ◌<◌, ◌≤◌, if◌then◌else◌, List, [], ◌∷◌, length, map, get_or, Some, None, refl, sym, ap, ◌∙◌, arith, inl, inr}
+use Rattle.std.specs.Prelude.{position}
 use Rattle.std.specs.List.{AllByRecursion}
 use Rattle.std.specs.Str.{bytes_eq}
 use Rattle.std.proofs.lemmas.Bool.{cases_lt, lt-ltb, le-ltb}
-use Rattle.std.proofs.lemmas.Option.{none-some, same_Some}
+use Rattle.std.proofs.lemmas.Option.{same_Some}
 use Rattle.frp_tree.specs.declared.syntax.Event.{Event}
 use Rattle.frp_tree.specs.Priorities.{IsPriority}
-use Rattle.frp_tree.specs.Tree.{ProgramTree}
 use Rattle.efrp_meaning.specs.Bounds.{levels}
 use Rattle.efrp_types.specs.Numbers.{event_source}
 use Rattle.efrp_types.proofs.GoodLaws.{no-fault-is-good}
@@ -17,15 +16,14 @@ use Rattle.pic_isa.specs.Sources.{source_name}
 use Rattle.pic_isa.proofs.UniqueNameLaws.{one_source}
 use Rattle.map_file.specs.declared.maps.MapEvent.{MapEvent}
 use Rattle.map_file.specs.declared.maps.Map.{Map}
-use Rattle.priority_masks.specs.Laws.{LevelsRise}
-use Rattle.priority_masks.specs.Levels.{level_of, priorities_of, priority_of}
+use Rattle.priority_masks.specs.Levels.{level_of, priority_of}
 use Rattle.priority_masks.proofs.LevelLaws.{levels-rise}
 use Rattle.firmware_promises.specs.Firmware.{event_of}
 use Rattle.core_story.specs.Interface.{level_at}
 use Rattle.core_story.specs.Values.{item}
 use Rattle.firmware_layout.specs.Layouts.{event_level}
 use Rattle.firmware_layout.specs.Pieces.{Makings}
-use Rattle.firmware_layout.specs.Sound.{AreMakings, IsMapIn}
+use Rattle.firmware_layout.specs.Sound.{AreMakings}
 
 -- A number is that of an event, or of none.
 pub level_inside : (f : Makings) (x : ℕ) → x < length f.p.events → event_level f x ≡ level_of f.p x

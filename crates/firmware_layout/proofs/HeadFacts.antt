@@ -1,9 +1,9 @@
 -- The head and the rest of the boot: how many words they have, and that they end in no skip.
-use Rattle.std.proofs.Common.{◌≡◌, ℕ, zero, suc, ◌+◌, ◌-◌, ◌<◌, ◌≤◌, Bool, true, false, if◌then◌else◌, List, [], ◌∷◌, ◌++◌, length, map, take, drop, replicate, min, refl, sym, ap, ◌∙◌, append_assoc, arith, length-append, length-take}
+use Rattle.std.proofs.Common.{◌≡◌, ℕ, ◌+◌, ◌-◌, ◌<◌, ◌≤◌, Bool, true, false, if◌then◌else◌, List, [], ◌∷◌, ◌++◌, length, map, take, drop, replicate, refl, sym, ap, ◌∙◌, append_assoc, arith, length-append, length-take}
 use Rattle.std.proofs.lemmas.List.{length-replicate}
 use Rattle.pic_isa.specs.declared.sources.Source.{Source}
 use Rattle.code_items.specs.declared.items.Item.{Item}
-use Rattle.code_items.specs.declared.items.Item.TheVariants.{Ins, Mark, Jump}
+use Rattle.code_items.specs.declared.items.Item.TheVariants.{Mark, Jump}
 use Rattle.code_items.specs.Items.{ends_skipping, skips, words_in, words_of_item}
 use Rattle.code_items.proofs.ItemLaws.{ends-append, words-append}
 use Rattle.glue_steps.specs.declared.lines.Line.{Line}

@@ -1,10 +1,10 @@
 -- What is computed as heard at a level is what is heard there.
-use Rattle.std.proofs.Common.{◌≡◌, ℕ, zero, suc, ◌+◌, ◌<◌, ◌≤◌, ◌^◌, ◌==◌, ◌&&◌, Bool, true, false, not, length, refl, sym, ap, ap₂, subst, ◌∙◌, arith, inl, inr, lit<}
+use Rattle.std.proofs.Common.{◌≡◌, ℕ, zero, suc, ◌<◌, ◌==◌, ◌&&◌, Bool, true, not, length, refl, sym, ap, ap₂, subst, ◌∙◌, arith, inl, inr, lit<}
 use Rattle.std.specs.Prelude.{◌↔◌, nat_lt}
 use Rattle.std.specs.Int.{bit_at}
 use Rattle.std.specs.Str.{bytes_eq}
 use Rattle.std.proofs.lemmas.Bool.{and_from, and_parts, eqb-true, eq-eqb}
-use Rattle.std.proofs.lemmas.Bool.Decides.{Decides-ltb, eqb_tells, leb_tells}
+use Rattle.std.proofs.lemmas.Bool.Decides.{Decides-ltb, leb_tells}
 use Rattle.std.proofs.lemmas.Nat.Bits.{bit_at_above}
 use Rattle.std.proofs.lemmas.Slice.Eq.{bytes_eq-Decides}
 use Rattle.frp_tree.specs.Tree.{ProgramTree}
@@ -13,7 +13,7 @@ use Rattle.pic_isa.specs.declared.sources.Source.{Source}
 use Rattle.pic_isa.specs.declared.sources.Source.TheVariants.{T0, Int, Ee, Bcl, Ccp2}
 use Rattle.pic_isa.specs.declared.sources.BitAt.{BitAt}
 use Rattle.pic_isa.specs.Sources.{at, enable_of, source_name, sources}
-use Rattle.pic_regs.specs.Bytes.{Byte, bit, bits, num, with_bit}
+use Rattle.pic_regs.specs.Bytes.{Byte, bit, num, with_bit}
 use Rattle.pic_regs.proofs.BitLaws.{bit-bits}
 use Rattle.pic_regs.proofs.ByteLaws.{bits-num, num-below}
 use Rattle.priority_masks.specs.Levels.{HasEnablesIn, IsAbove, level_of}

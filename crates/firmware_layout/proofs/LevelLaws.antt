@@ -1,24 +1,21 @@
 -- The levels of the layout order events as the map's priorities do.
-use Rattle.std.proofs.Common.{◌≡◌, ℕ, zero, suc, ◌+◌, ◌<◌, ◌≤◌, ◌==◌, Bool, true, false, not, nat_lt, nat_le, ◌||◌, if◌then◌else◌, length, refl, sym, ap, subst, ◌∙◌, arith, inl, inr}
+use Rattle.std.proofs.Common.{◌≡◌, ℕ, ◌<◌, ◌≤◌, ◌==◌, Bool, true, false, not, nat_lt, nat_le, ◌||◌, if◌then◌else◌, length, refl, ap, arith, inl, inr}
 use Rattle.std.specs.Prelude.{◌⊎◌, ◌↔◌}
-use Rattle.std.proofs.lemmas.Bool.{cases_lt, eqb-true, lt-ltb, ltb-false, ne_eqb}
-use Rattle.frp_tree.specs.Tree.{ProgramTree}
+use Rattle.std.proofs.lemmas.Bool.{cases_lt, eqb-true, ltb-false, ne_eqb}
 use Rattle.efrp_meaning.specs.Bounds.{levels}
 use Rattle.map_file.specs.declared.maps.Map.{Map}
 use Rattle.priority_masks.specs.Laws.{LevelsRise}
 use Rattle.priority_masks.specs.Levels.{level_of, priority_of}
 use Rattle.priority_masks.proofs.LevelLaws.{levels-rise}
-use Rattle.core_story.specs.Interface.{level_at}
 use Rattle.scratch_commit.specs.declared.kinds.Kind.{Kind}
 use Rattle.scratch_commit.specs.declared.kinds.Kind.TheVariants.{Short, Long, Bottom, Middle}
 use Rattle.scratch_commit.specs.Plans.{is_bottom, is_short, over_idle}
 use Rattle.run_steps.specs.Spots.{is_locked}
-use Rattle.firmware_parts.specs.Times.{short_work, times}
-use Rattle.code_story.specs.Arranged.{LevelsAgree}
-use Rattle.firmware_layout.specs.Laws.{LayoutLevels, layout_with}
+use Rattle.firmware_parts.specs.Times.{short_work}
+use Rattle.firmware_layout.specs.Laws.{LayoutLevels}
 use Rattle.firmware_layout.specs.Layouts.{event_level, has_lock}
 use Rattle.firmware_layout.specs.Pieces.{Makings, kind_of, plan_in}
-use Rattle.firmware_layout.specs.Sound.{AreMakings, IsMapIn}
+use Rattle.firmware_layout.specs.Sound.{AreMakings}
 use Rattle.firmware_layout.proofs.EventLaws.{is_event, level_few, level_inside, level_outside, priority_none, priority_of_map, priority_real, real_event, sources_differ}
 
 -- A run that is short, or without a lock, is of the highest level; one of the lowest of several is of level 1.

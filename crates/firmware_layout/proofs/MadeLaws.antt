@@ -1,5 +1,5 @@
 -- Where each piece of firmware does its own, the pieces can be put together.
-use Rattle.std.proofs.Common.{◌≡◌, ℕ, zero, suc, ◌+◌, ◌<◌, ◌≤◌, List, [], ◌∷◌, length, map, slice_get, Some, None, refl, sym, ap, subst, ◌∙◌, arith, inl, inr}
+use Rattle.std.proofs.Common.{◌≡◌, ℕ, zero, suc, ◌+◌, ◌<◌, ◌≤◌, List, [], ◌∷◌, length, map, slice_get, Some, None, refl, sym, ap, subst, arith, inl, inr}
 use Rattle.std.specs.List.{AllByRecursion}
 use Rattle.std.proofs.lemmas.Option.{none-some, same_Some}
 use Rattle.frp_tree.specs.declared.syntax.Event.{Event}
@@ -19,7 +19,7 @@ use Rattle.isr_vector.proofs.ListLaws.{all_mapped}
 use Rattle.event_code.specs.Moves.{move_of, put_of}
 use Rattle.firmware_layout.specs.Made.{DoesEvent, IsMade, IsMaking}
 use Rattle.firmware_layout.specs.Pieces.{Makings}
-use Rattle.firmware_layout.specs.Sound.{IsMoveIn, IsOutput, IsWorkIn}
+use Rattle.firmware_layout.specs.Sound.{IsMoveIn, IsWorkIn}
 
 -- What is made of each of some items passes where each of them does.
 all-made_of : {A B : Type 0} (P : A → Type 0) (Q : B → Type 0) (g : A → B) → ((x : A) → P x → Q (g x)) → (xs : List A) → AllByRecursion P xs → AllByRecursion Q (map g xs)
@@ -101,6 +101,8 @@ is_making f made = record {
   written = made.written;
   passes = made.passes;
   no_inputs = made.no_inputs;
+  states = let same = made.states in omega (arith, same);
+  frames = let same = made.frames in omega (arith, same);
   few = made.few;
   sources = made.sources;
   bytes =
@@ -109,7 +111,5 @@ is_making f made = record {
       let scratch = made.scratch in
       let fits = made.fits in
       omega (arith, states, frames, scratch, fits);
-  states = let same = made.states in omega (arith, same);
-  frames = let same = made.frames in omega (arith, same);
   works = λ event inside. work-is_in f made event inside;
 }

@@ -1,12 +1,10 @@
 -- The pieces of code by their numbers: which piece is which, that none ends in a skip, and where each begins.
-use Rattle.std.proofs.Common.{◌≡◌, ℕ, zero, suc, ◌+◌, ◌-◌, ◌%◌, ◌<◌, ◌≤◌, Bool, true, false, if◌then◌else◌, List, [], ◌∷◌, ◌++◌, length, map, reverse, take, drop, replicate, refl, sym, ap, subst, ◌∙◌, arith, inl, inr, length-append}
+use Rattle.std.proofs.Common.{◌≡◌, ℕ, zero, suc, ◌<◌, ◌≤◌, Bool, true, false, if◌then◌else◌, List, [], ◌∷◌, ◌++◌, length, map, reverse, refl, sym, ap, subst, arith, inl, inr, length-append}
 use Rattle.std.specs.Prelude.{◌⊎◌}
 use Rattle.std.specs.List.{AllByRecursion}
-use Rattle.std.proofs.lemmas.Bool.{cases_lt}
-use Rattle.std.proofs.lemmas.List.{reverse-append, reverse-reverse}
+use Rattle.std.proofs.lemmas.List.{reverse-append}
 use Rattle.code_items.specs.declared.items.Item.{Item}
-use Rattle.code_items.specs.Items.{words_in}
-use Rattle.code_items.specs.Places.{NoneSkips, base, joined, piece_at}
+use Rattle.code_items.specs.Places.{NoneSkips, piece_at}
 use Rattle.code_items.specs.Items.{ends_skipping}
 
 -- An element stands at a number in a list.

@@ -1,10 +1,9 @@
 -- Opens and commits are places at which one part alone runs a step, and those of the map.
-use Rattle.std.proofs.Common.{◌≡◌, ℕ, zero, suc, ◌+◌, ◌<◌, ◌≤◌, ◌==◌, ◌&&◌, ◌||◌, Bool, true, false, nat_le, nat_lt, List, [], ◌∷◌, length, map, slice_get, Option, Some, None, refl, sym, ap, subst, ◌∙◌, arith, inl, inr}
+use Rattle.std.proofs.Common.{◌≡◌, ℕ, zero, suc, ◌+◌, ◌<◌, ◌≤◌, ◌==◌, ◌&&◌, Bool, true, false, nat_le, nat_lt, List, [], ◌∷◌, length, map, slice_get, Some, None, refl, sym, ap, ◌∙◌, arith, inl, inr}
 use Rattle.std.specs.Prelude.{◌⊎◌}
-use Rattle.std.proofs.lemmas.Bool.{and_parts, eqb-true, leb-true, le-leb, lt-leb, le-ltb, ltb-true, or_cases, or_from}
+use Rattle.std.proofs.lemmas.Bool.{and_parts, eqb-true, leb-true, lt-leb, le-ltb, ltb-true, or_cases, or_from}
 use Rattle.std.proofs.lemmas.Bool.Decides.{eqb_tells}
 use Rattle.std.proofs.lemmas.Option.{none-some, same_Some}
-use Rattle.frp_tree.specs.declared.syntax.Event.{Event}
 use Rattle.efrp_types.specs.Numbers.{event_source}
 use Rattle.map_file.specs.declared.maps.MapEvent.{MapEvent}
 use Rattle.map_file.specs.declared.maps.Map.{Map}
@@ -14,13 +13,12 @@ use Rattle.core_story.specs.Values.{item}
 use Rattle.scratch_commit.specs.Plans.{is_short}
 use Rattle.firmware_parts.specs.Layout.{Layout, Part}
 use Rattle.firmware_parts.specs.Layout.Part.{Boot, Taking, Start, Begin, Work, Lock, Open, Copying, Commit, Exit}
-use Rattle.code_story.specs.Arranged.{IsEventOf, IsPart, PlacesAgree, StandsAlone}
-use Rattle.firmware_layout.specs.Laws.{IsApart, LayoutPlaces, RunStands, SpotsRise, VectorStands, layout_with}
-use Rattle.firmware_layout.specs.Layouts.{boot_start, boot_turn, event_level, has_lock, head_end, lies, lies_in, spots_in}
-use Rattle.firmware_layout.specs.Pieces.{Makings, kind_of, plan_in}
-use Rattle.firmware_layout.specs.Sound.{AreMakings, IsCodeIn, IsMapIn}
+use Rattle.code_story.specs.Arranged.{IsEventOf, IsPart, StandsAlone}
+use Rattle.firmware_layout.specs.Laws.{LayoutPlaces, SpotsRise, VectorStands, layout_with}
+use Rattle.firmware_layout.specs.Layouts.{boot_start, boot_turn, has_lock, head_end, lies, lies_in, spots_in}
+use Rattle.firmware_layout.specs.Pieces.{Makings, kind_of}
+use Rattle.firmware_layout.specs.Sound.{AreMakings, IsCodeIn}
 use Rattle.firmware_layout.proofs.EventLaws.{is_event, real_event, source_is}
-use Rattle.firmware_layout.proofs.RunFacts.{WindowStands}
 use Rattle.firmware_layout.proofs.StandLaws.{each-run-stands, run_window, runs-lie-apart, vector-of-code-stands}
 
 -- Events of a map by their numbers.

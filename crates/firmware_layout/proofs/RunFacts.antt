@@ -1,7 +1,6 @@
 -- The items of a run: how many words they have, that its places rise, and that its marks are its places.
-use Rattle.std.proofs.Common.{◌≡◌, ℕ, zero, suc, ◌+◌, ◌-◌, ◌%◌, ◌<◌, ◌≤◌, ◌==◌, ◌/◌, Bool, true, false, not, if◌then◌else◌, Option, Some, None, List, [], ◌∷◌, ◌++◌, length, map, refl, sym, ap, subst, ◌∙◌, arith, length-append}
+use Rattle.std.proofs.Common.{◌≡◌, ℕ, suc, ◌+◌, ◌-◌, ◌%◌, ◌<◌, ◌≤◌, ◌==◌, ◌/◌, Bool, true, false, not, if◌then◌else◌, Option, Some, None, List, [], ◌∷◌, ◌++◌, length, map, refl, sym, ap, subst, ◌∙◌, arith, length-append}
 use Rattle.std.specs.List.{AllByRecursion}
-use Rattle.pic_isa.specs.declared.instructions.Instr.{Instr}
 use Rattle.pic_isa.specs.declared.instructions.Instr.TheVariants.{Retfie}
 use Rattle.pic_regs.specs.declared.places.Place.{Place}
 use Rattle.pic_regs.specs.declared.places.Place.TheVariants as place
@@ -12,7 +11,7 @@ use Rattle.code_steps.specs.Steps.{Is, next}
 use Rattle.code_acts.specs.Codes.{high_bit, low_bit, moved}
 use Rattle.code_acts.specs.Standing.{StandFrom}
 use Rattle.code_items.specs.declared.items.Item.{Item}
-use Rattle.code_items.specs.declared.items.Item.TheVariants.{Ins, Mark, Jump}
+use Rattle.code_items.specs.declared.items.Item.TheVariants.{Ins, Mark}
 use Rattle.code_items.specs.Items.{ends_skipping, words_in}
 use Rattle.code_items.specs.Lines.{Stands}
 use Rattle.code_items.proofs.ItemLaws.{ends-append, words-append}
@@ -25,16 +24,16 @@ use Rattle.glue_steps.proofs.StillLaws.{no_return}
 use Rattle.glue_parts.specs.declared.kept.TheConstants.{REDO}
 use Rattle.glue_parts.specs.declared.moves.Move.{Move}
 use Rattle.glue_parts.specs.Marks.{mark, Again, Committing, Lock, Opening}
-use Rattle.glue_parts.specs.Pieces.{bank_copied, bit_lines, is_known, knows, lines_for, lines_to_choose, lines_to_copy}
+use Rattle.glue_parts.specs.Pieces.{bank_copied, bit_lines, is_known, knows, lines_for, lines_to_copy}
 use Rattle.glue_parts.specs.Places.{bank_of}
 use Rattle.scratch_commit.specs.declared.kinds.Kind.{Kind}
 use Rattle.scratch_commit.specs.declared.kinds.Kind.TheVariants.{Short, Long, Bottom, Middle}
-use Rattle.scratch_commit.specs.Deeds.{Copy, Deed, Make, Pause, bank_behind, bank_past, lines_in, lines_of}
+use Rattle.scratch_commit.specs.Deeds.{Deed, Make, bank_past, lines_in}
 use Rattle.scratch_commit.specs.Plans.{IsInstruction, Plan, frame_in, glue, is_short, masks_in, over_idle, run_items, working}
 use Rattle.scratch_commit.specs.Windows.{copying, marked_last, window, window_items}
 use Rattle.scratch_commit.proofs.DeedLaws.{lines_then}
 use Rattle.run_steps.specs.Spots.{before_flag, entering_in, exit_bank, is_locked, lock_words, locked_spots, long_spots, moves_in, open_bank, restarting, returning_in, short_spots, spots_by, spots_of}
-use Rattle.run_steps.proofs.PlaceLaws.{LockedStands, LongStands, ShortStands, locked_is, locked_parts, locked_stands, long_is, long_parts, long_stands, marked_stand, short_is, short_parts, short_stands, tail_items, test_items, words_of_work}
+use Rattle.run_steps.proofs.PlaceLaws.{locked_is, locked_parts, locked_stands, long_is, long_parts, long_stands, marked_stand, short_is, short_parts, short_stands, tail_items, test_items, words_of_work}
 use Rattle.firmware_layout.specs.Laws.{SpotsRise}
 
 -- All lines are no skips.

@@ -1,5 +1,5 @@
 -- Where the pieces of firmware's code stand: each run from its mark on, with its marks at its places; the head and the boot; and apart.
-use Rattle.std.proofs.Common.{◌≡◌, ℕ, zero, suc, ◌+◌, ◌-◌, ◌%◌, ◌<◌, ◌≤◌, ◌==◌, Bool, true, false, List, [], ◌∷◌, ◌++◌, length, map, reverse, drop, refl, sym, ap, subst, ◌∙◌, arith, inl, inr, length-append, replicate}
+use Rattle.std.proofs.Common.{◌≡◌, ℕ, zero, suc, ◌+◌, ◌-◌, ◌%◌, ◌<◌, ◌≤◌, Bool, true, false, List, [], ◌∷◌, ◌++◌, length, map, reverse, drop, refl, sym, ap, subst, ◌∙◌, arith, inl, inr, length-append, replicate}
 use Rattle.std.specs.Prelude.{◌⊎◌}
 use Rattle.std.specs.List.{AllByRecursion}
 use Rattle.std.proofs.lemmas.Bool.{cases_lt, ltb-false}
@@ -12,11 +12,11 @@ use Rattle.code_items.specs.Lines.{Stands}
 use Rattle.code_items.specs.Places.{NoneSkips, base, joined, piece_at}
 use Rattle.code_items.proofs.PieceLaws.{base-ends, base-next, base-rises, piece-stands}
 use Rattle.code_items.proofs.StandLaws.{stands-mark}
-use Rattle.glue_parts.specs.Marks.{Boot, Entry, Ready, mark}
+use Rattle.glue_parts.specs.Marks.{Entry, Ready, mark}
 use Rattle.scratch_commit.specs.declared.kinds.Kind.{Kind}
 use Rattle.scratch_commit.specs.declared.kinds.Kind.TheVariants.{Short, Long, Bottom, Middle}
-use Rattle.scratch_commit.specs.Plans.{Plan, run_items}
-use Rattle.run_steps.specs.Spots.{spots_by, spots_of}
+use Rattle.scratch_commit.specs.Plans.{Plan}
+use Rattle.run_steps.specs.Spots.{spots_by}
 use Rattle.isr_vector.specs.Taking.{context_of}
 use Rattle.isr_vector.specs.Urgency.{by_urgency}
 use Rattle.isr_vector.proofs.UrgencyLaws.{all-are_events, all_events}
@@ -26,7 +26,7 @@ use Rattle.firmware_layout.specs.Layouts.{boot_start, boot_turn, head_end, spots
 use Rattle.firmware_layout.specs.Pieces.{Makings, boot_of, filler_of, head_of, items_of, lines_of_boot, pieces_of, plan_in, run_of, runs_of, taking_of}
 use Rattle.firmware_layout.specs.Sound.{AreMakings, IsCodeIn}
 use Rattle.firmware_layout.proofs.HeadFacts.{before_ready, before_ready_ends, before_ready_words, boot_ends, boot_parts, boot_long, boot_words, goto, head_ends, head_words, taking_ends}
-use Rattle.firmware_layout.proofs.PieceFacts.{HasNumber, StandsIn, all_stand, boot_inside, boot_number, boot_piece, boot_positive, has_number, head_inside, head_piece, in_map, in_reverse, none_skips, pieces_by, run_inside, run_no_boot, run_number, run_numbers, run_piece, run_positive}
+use Rattle.firmware_layout.proofs.PieceFacts.{StandsIn, all_stand, boot_inside, boot_number, boot_piece, boot_positive, has_number, head_inside, head_piece, in_map, in_reverse, none_skips, pieces_by, run_inside, run_no_boot, run_number, run_numbers, run_piece, run_positive}
 use Rattle.firmware_layout.proofs.RunFacts.{WindowStands, run_ends, run_words, spots_rise, window_stands}
 
 spots_entry : (kind : Kind) (paged : Bool) (start : ℕ) (plan : Plan) → (spots_by kind paged start plan).entry ≡ start

@@ -1,6 +1,5 @@
 -- Reactions lead from states to states, the map reads states off the chip, and times and map fit the program.
-use Rattle.std.proofs.Common.{◌≡◌, ℕ, zero, suc, ◌+◌, ◌<◌, ◌≤◌, ◌||◌, Bool, true, false, List, [], ◌∷◌, length, map, slice_get, Option, Some, None, option_map, refl, sym, ap, subst, ◌∙◌, arith}
-use Rattle.std.specs.List.{list_any}
+use Rattle.std.proofs.Common.{◌≡◌, ℕ, zero, suc, ◌+◌, ◌<◌, ◌≤◌, true, List, [], ◌∷◌, length, map, slice_get, Option, Some, None, option_map, refl, sym, ap, subst, ◌∙◌, arith}
 use Rattle.std.specs.Str.{bytes_eq}
 use Rattle.std.proofs.lemmas.Bool.{or_left, or_right}
 use Rattle.std.proofs.lemmas.Option.{none-some, same_Some}
@@ -10,25 +9,22 @@ use Rattle.frp_tree.specs.declared.syntax.Ty.TheVariants.{U8}
 use Rattle.frp_tree.specs.Tree.{DeclTree, ProgramTree}
 use Rattle.efrp_meaning.specs.Bounds.{body, boot}
 use Rattle.efrp_meaning.specs.Decls.{inputs_of}
-use Rattle.efrp_meaning.specs.Meaning.{Reaction, SerialRun, initial_state, react, serial}
+use Rattle.efrp_meaning.specs.Meaning.{Reaction, SerialRun, initial_state, react}
 use Rattle.efrp_meaning.specs.States.{AreSamples, AreValuesOf, IsState}
 use Rattle.efrp_types.specs.NameFaults.{is_event as is_named}
 use Rattle.efrp_types.specs.Numbers.{event_name}
 use Rattle.efrp_types.proofs.GoodLaws.{passed-reacts, passed-runs}
 use Rattle.efrp_types.proofs.NumberLaws.{item_at}
-use Rattle.pic_machine.specs.Chip.{Chip}
 use Rattle.map_file.specs.declared.maps.MapEvent.{MapEvent}
 use Rattle.map_file.specs.declared.maps.Map.{Map}
 use Rattle.firmware_promises.specs.Firmware.{event_of}
-use Rattle.core_story.specs.Interface.{Fitted}
 use Rattle.core_story.specs.Values.{item, name_at}
-use Rattle.firmware_parts.specs.Times.{dispatching, starting, times}
+use Rattle.firmware_parts.specs.Times.{dispatching, starting}
 use Rattle.firmware_parts.proofs.TimesLaws.{times-quick, times-within}
 use Rattle.event_code.proofs.WorkLaws.{map_reads_states}
-use Rattle.code_story.specs.Arranged.{Arranged, StatesAgree}
-use Rattle.firmware_layout.specs.Laws.{LayoutArranged, LayoutStates, LayoutTimes, layout_with}
+use Rattle.firmware_layout.specs.Laws.{LayoutArranged, LayoutStates, LayoutTimes}
 use Rattle.firmware_layout.specs.Pieces.{Makings}
-use Rattle.firmware_layout.specs.Sound.{AreMakings, IsMapIn}
+use Rattle.firmware_layout.specs.Sound.{AreMakings}
 use Rattle.firmware_layout.proofs.EnableLaws.{layout-enables}
 use Rattle.firmware_layout.proofs.EventLaws.{is_event}
 use Rattle.firmware_layout.proofs.LevelLaws.{layout-levels}

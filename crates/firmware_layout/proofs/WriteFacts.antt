@@ -1,7 +1,7 @@
 -- What a part may write, by kinds of addresses: frames, cells, operand bytes, enables, PCLATH, ports.
-use Rattle.std.proofs.Common.{◌≡◌, ℕ, zero, suc, ◌+◌, ◌-◌, ◌<◌, ◌≤◌, ◌==◌, ◌&&◌, ◌||◌, Bool, true, false, not, if◌then◌else◌, cond, nat_le, Option, Some, None, List, [], ◌∷◌, length, refl, sym, ap, subst, ◌∙◌, arith, inl, inr, lit<}
-use Rattle.std.specs.Prelude.{◌⊎◌, slice_get, IfSome}
-use Rattle.std.specs.List.{AllByRecursion, list_any, range_with_len}
+use Rattle.std.proofs.Common.{◌≡◌, ℕ, ◌+◌, ◌-◌, ◌<◌, ◌≤◌, ◌==◌, ◌&&◌, ◌||◌, Bool, true, false, not, if◌then◌else◌, cond, nat_le, Some, List, [], ◌∷◌, length, refl, sym, ap, subst, ◌∙◌, arith, inl, inr, lit<}
+use Rattle.std.specs.Prelude.{◌⊎◌, slice_get}
+use Rattle.std.specs.List.{AllByRecursion}
 use Rattle.std.specs.Map.{lookup}
 use Rattle.std.specs.Str.{bytes_eq}
 use Rattle.std.proofs.lemmas.Option.{none-some, same_Some}
@@ -9,11 +9,9 @@ use Rattle.std.proofs.lemmas.Bool.{agree_below_at, and_parts, eqb-true, leb-true
 use Rattle.frp_tree.specs.Tree.{OutputTree}
 use Rattle.efrp_meaning.specs.Bounds.{levels, state_bytes}
 use Rattle.pic_isa.specs.Names.{port_at, ports}
-use Rattle.pic_regs.specs.declared.places.Place.{Place}
-use Rattle.pic_regs.specs.declared.places.Place.TheVariants.{Plain, Port}
+use Rattle.pic_regs.specs.declared.places.Place.TheVariants.{Plain}
 use Rattle.pic_regs.specs.Map.{lowest, within}
 use Rattle.pic_regs.specs.Places.{reg_of}
-use Rattle.bank_alloc.specs.declared.needs.Needs.{Needs}
 use Rattle.bank_alloc.specs.Addresses.{address_of, is_general}
 use Rattle.bank_alloc.specs.Needs.{bytes_of}
 use Rattle.bank_alloc.proofs.AddressLaws.{addresses-differ, addresses-general}
@@ -26,7 +24,7 @@ use Rattle.firmware_promises.specs.Firmware.{is_at}
 use Rattle.scratch_commit.specs.declared.frames.Frame.{Frame}
 use Rattle.scratch_commit.specs.declared.kinds.Kind.{Kind}
 use Rattle.scratch_commit.specs.declared.kinds.Kind.TheVariants.{Short, Long, Bottom, Middle}
-use Rattle.scratch_commit.specs.Frames.{byte_of_frame, frame_of, is_between, is_byte, is_in_frame, is_over_runs, wanted}
+use Rattle.scratch_commit.specs.Frames.{is_between, is_byte, is_in_frame, is_over_runs, wanted}
 use Rattle.scratch_commit.specs.Masks.{saved_of}
 use Rattle.scratch_commit.specs.Plans.{Plan, context_in, frame_in, is_short, masks_in}
 use Rattle.run_steps.specs.Spots.{is_locked}

@@ -1,9 +1,9 @@
 -- What parts may write: states in windows alone, frames of their own, enables and PCLATH where they have to, and listed registers.
-use Rattle.std.proofs.Common.{◌≡◌, ℕ, zero, suc, ◌+◌, ◌-◌, ◌<◌, ◌≤◌, ◌==◌, ◌&&◌, ◌||◌, Bool, true, false, not, if◌then◌else◌, nat_le, Option, Some, None, List, [], ◌∷◌, ◌++◌, length, refl, sym, ap, ap₂, subst, ◌∙◌, arith, inl, inr}
+use Rattle.std.proofs.Common.{◌≡◌, ℕ, ◌+◌, ◌-◌, ◌<◌, ◌≤◌, ◌==◌, ◌&&◌, ◌||◌, Bool, true, false, not, if◌then◌else◌, nat_le, Option, Some, None, List, [], ◌∷◌, ◌++◌, length, refl, sym, ap, ap₂, subst, ◌∙◌, arith, inl, inr}
 use Rattle.std.specs.Prelude.{◌⊎◌, IfSome}
 use Rattle.std.specs.List.{AllByRecursion, list_all}
 use Rattle.std.proofs.lemmas.Bool.{and_from, and_parts, eq-eqb, eqb-true, le-leb, leb-true, or_cases}
-use Rattle.std.proofs.lemmas.Option.{none-some, same_Some}
+use Rattle.std.proofs.lemmas.Option.{none-some}
 use Rattle.frp_tree.specs.declared.syntax.Setup.{Setup}
 use Rattle.efrp_meaning.specs.Bounds.{levels, state_bytes}
 use Rattle.efrp_types.proofs.TypedLaws.{each-true}
@@ -11,30 +11,28 @@ use Rattle.pic_isa.specs.Names.{register_at, setup_registers}
 use Rattle.pic_isa.proofs.NameLaws.{register_all}
 use Rattle.pic_regs.specs.declared.places.Place.{Place}
 use Rattle.pic_regs.specs.declared.places.Place.TheVariants as place
-use Rattle.pic_regs.specs.Bytes.{Byte, bit, bit_by_bit, bits, is_zero, num, zeros}
+use Rattle.pic_regs.specs.Bytes.{Byte, bit, bit_by_bit, bits, num, zeros}
 use Rattle.pic_regs.specs.Map.{within}
 use Rattle.map_file.specs.declared.maps.Map.{Map}
 use Rattle.bank_alloc.specs.Addresses.{address_of}
 use Rattle.priority_masks.specs.declared.tables.Enables.{Enables}
 use Rattle.priority_masks.specs.Levels.{level_of}
-use Rattle.priority_masks.proofs.LevelLaws.{levels-rise}
 use Rattle.glue_parts.specs.declared.moves.Move.{Move}
 use Rattle.glue_parts.specs.Moves.{after_move, after_moves, byte_from, put_to, puts_by, shown_at}
 use Rattle.firmware_promises.specs.MapNames.{is_listed}
 use Rattle.firmware_promises.specs.Setups.{last_setup, setup_byte}
 use Rattle.scratch_commit.specs.Frames.{is_in_frame}
-use Rattle.scratch_commit.specs.Masks.{masked, masks_of, no_masks}
+use Rattle.scratch_commit.specs.Masks.{masks_of}
 use Rattle.scratch_commit.specs.Plans.{frame_in, is_short, masks_in}
 use Rattle.firmware_parts.specs.Layout.{Layout, Part}
 use Rattle.firmware_parts.specs.Layout.Part.{Boot, Taking, Start, Begin, Work, Lock, Open, Copying, Commit, Exit}
-use Rattle.event_code.specs.States.{state_in}
 use Rattle.event_code.proofs.StateLaws.{state_in-same}
-use Rattle.code_story.specs.Arranged.{IsPart, Spares, WrittenBy, WritesAgree, is_boot_part, leaves_enables, leaves_page, leaves_states, leaves_told}
+use Rattle.code_story.specs.Arranged.{IsPart, Spares, WrittenBy, is_boot_part, leaves_enables, leaves_page, leaves_states, leaves_told}
 use Rattle.firmware_layout.specs.Heard.{heard}
 use Rattle.firmware_layout.specs.Laws.{LayoutWrites, layout_with}
 use Rattle.firmware_layout.specs.Layouts.{event_level, has_lock, is_changed, is_masked, is_of_work, is_page, is_target, writes_in}
 use Rattle.firmware_layout.specs.Pieces.{Makings, kind_of, plan_in}
-use Rattle.firmware_layout.specs.Sound.{AreMakings, IsMapIn, IsMoveIn, ListsWritten}
+use Rattle.firmware_layout.specs.Sound.{AreMakings, IsMoveIn, ListsWritten}
 use Rattle.firmware_layout.proofs.EventLaws.{is_event, level_few, level_inside}
 use Rattle.firmware_layout.proofs.HeardLaws.{is_heard}
 use Rattle.firmware_layout.proofs.WriteFacts.{IsCommonSaved, IsFrameByte, IsOutputPort, IsScratchByte, IsStateByte, MaskedTells, cell_class, class_of, class_operand, class_port, frame_class, frame_no_cell, frame_tells, frames_differ, masked_class, masked_tells, page_tells, scratch_below, scratch_class, state_class, states_no_scratch, target_tells, work_tells}

@@ -1,10 +1,9 @@
 -- What firmware is made of where it is compiled.
-use Rattle.std.specs.Prelude.{◌≡◌, ℕ, ◌<◌, ◌≤◌, nat_lt, slice_get, Option, Some, None, [], length}
+use Rattle.std.specs.Prelude.{◌≡◌, ℕ, ◌≤◌, slice_get, Some, None, [], length}
 use Rattle.std.specs.List.{AllByRecursion}
 use Rattle.frp_tree.specs.Tree.{ProgramTree, program_tree_of}
 use Rattle.efrp_meaning.specs.Bounds.{state_bytes}
 use Rattle.pic_isa.specs.declared.sources.Source.{Source}
-use Rattle.bank_alloc.specs.Needs.{bytes_of}
 use Rattle.priority_masks.specs.Levels.{AreLevelsOf}
 use Rattle.code_steps.specs.declared.banks.Bank.TheVariants.{Known}
 use Rattle.glue_parts.specs.declared.spread.Spread.{Spread}

@@ -1,8 +1,8 @@
 -- The layout of firmware: where its parts lie and what they may write.
-use Rattle.std.specs.Prelude.{ℕ, ◌+◌, ◌-◌, ◌==◌, Bool, false, not, nat_le, nat_lt, ◌&&◌, ◌||◌, if◌then◌else◌, Option, Some, None, List, length, drop}
+use Rattle.std.specs.Prelude.{ℕ, ◌+◌, ◌-◌, ◌==◌, Bool, false, not, nat_le, nat_lt, ◌&&◌, ◌||◌, if◌then◌else◌, List, length, drop}
 use Rattle.std.specs.List.{list_any, range_with_len}
 use Rattle.efrp_meaning.specs.Bounds.{state_bytes}
-use Rattle.pic_regs.specs.Bytes.{Byte, bits, is_zero}
+use Rattle.pic_regs.specs.Bytes.{bits, is_zero}
 use Rattle.pic_regs.specs.Map.{lowest, within}
 use Rattle.pic_regs.specs.Places.{reg_of}
 use Rattle.bank_alloc.specs.Addresses.{address_of}
@@ -13,7 +13,7 @@ use Rattle.glue_parts.specs.Marks.{Boot as BootMark, Entry, mark}
 use Rattle.glue_parts.specs.Moves.{puts_by}
 use Rattle.firmware_promises.specs.Firmware.{is_at}
 use Rattle.scratch_commit.specs.Frames.{is_in_frame}
-use Rattle.scratch_commit.specs.Plans.{Plan, context_in, frame_in, is_short, masks_in, over_idle}
+use Rattle.scratch_commit.specs.Plans.{Plan, frame_in, is_short, masks_in, over_idle}
 use Rattle.run_steps.specs.Spots.{Spots, exit_bank, is_locked, open_bank, spots_of}
 use Rattle.isr_vector.specs.Taking.{context_of}
 use Rattle.event_code.specs.Moves.{next_by}

@@ -1,5 +1,5 @@
 -- What firmware is made of, and the pieces of its code in order.
-use Rattle.std.specs.Prelude.{ℕ, ◌-◌, ◌==◌, Bool, false, nat_le, nat_lt, if◌then◌else◌, List, [], ◌∷◌, ◌++◌, length, map, replicate, reverse}
+use Rattle.std.specs.Prelude.{ℕ, ◌-◌, ◌==◌, false, nat_le, nat_lt, if◌then◌else◌, List, [], ◌∷◌, ◌++◌, length, map, replicate, reverse}
 use Rattle.frp_tree.specs.Tree.{ProgramTree}
 use Rattle.efrp_meaning.specs.Bounds.{levels}
 use Rattle.pic_isa.specs.declared.instructions.Instr.TheVariants.{Nop}

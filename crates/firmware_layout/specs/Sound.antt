@@ -1,5 +1,5 @@
 -- What is to be known of what firmware is made of, of program memory, and of the map.
-use Rattle.std.specs.Prelude.{◌≡◌, ℕ, ◌+◌, ◌<◌, ◌≤◌, ◌⊎◌, true, false, List, [], map, length, slice_get, Some}
+use Rattle.std.specs.Prelude.{◌≡◌, ℕ, ◌+◌, ◌<◌, ◌≤◌, ◌⊎◌, true, false, [], map, length, slice_get, Some}
 use Rattle.std.specs.List.{AllByRecursion}
 use Rattle.frp_tree.specs.declared.syntax.Setup.{Setup}
 use Rattle.frp_tree.specs.Tree.{OutputTree}
@@ -8,7 +8,7 @@ use Rattle.efrp_meaning.specs.Decls.{inputs_of}
 use Rattle.efrp_types.specs.Laws.{IsWellFormed}
 use Rattle.efrp_types.specs.Passes.{Passes}
 use Rattle.pic_isa.specs.Names.{port_at, register_at}
-use Rattle.pic_isa.specs.Sources.{enable_of, flag_of}
+use Rattle.pic_isa.specs.Sources.{flag_of}
 use Rattle.pic_regs.specs.declared.places.Place.{Place}
 use Rattle.pic_regs.specs.declared.places.Place.TheVariants.{Plain, Port}
 use Rattle.pic_regs.specs.Bytes.{bits, zeros}
@@ -18,7 +18,6 @@ use Rattle.map_file.specs.declared.maps.Map.{Map}
 use Rattle.bank_alloc.specs.Addresses.{address_of}
 use Rattle.bank_alloc.specs.Needs.{bytes_of}
 use Rattle.priority_masks.specs.Levels.{HasEnablesIn}
-use Rattle.code_items.specs.declared.items.Item.{Item}
 use Rattle.code_items.specs.Items.{ends_skipping, has_pages, words_in}
 use Rattle.code_items.specs.Lines.{Stands}
 use Rattle.glue_parts.specs.declared.moves.Move.{Move}
