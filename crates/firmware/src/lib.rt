@@ -1,14 +1,13 @@
-//! The compiler's middle: from a program to an image and its map. So far it takes programs of the first
-//! form: one event that counts on one port.
+//! The compiler's middle: from a program that passes the checks to an image of program memory and its map, or to why there is
+//! none.
 //!
-//! Contracts see the image and the map as the stated functions of a `Counter`, and say that they are firmware for the
-//! program that it stands for. The tool stands on this crate.
+//! `specs/Builds` says what is built of a program (`IsBuilt`), and of which programs nothing is (`IsBuildFault`). The tool stands on
+//! this crate.
 #![tactic(auto)]
 
-mod bounds;
 mod build;
-mod code;
-mod registers;
+mod faults;
+mod kinds;
 
-pub use bounds::{Limits, limits_of};
 pub use build::{Built, compile};
+pub use faults::BuildFault;

@@ -10,7 +10,7 @@ use Rattle.efrp_types.specs.Passes.{Passes}
 use Rattle.checked_source.specs.Readings.{Reading, Reads}
 use Rattle.frp_tool.specs.Outsides.{Outside}
 use Rattle.frp_tool.specs.Endings.{Ends, DueOrYielded}
-use Rattle.frp_tool.specs.SourceTexts.{AnyProgram, IsRefused, refusal_line, SourceRefuses, SourceTells}
+use Rattle.frp_tool.specs.SourceTexts.{IsRefused, refusal_line, SourceRefuses, SourceTells}
 use Rattle.frp_tool.specs.Checks.{CheckVerdict, Bad, Good, check_status, check_text, CheckCause, Checks, CheckDone, CheckCompletes, CheckPromises}
 use Rattle.frp_tool.proofs.EndingFacts.{line_due, line_settled}
 use Rattle.frp_tool.proofs.SourceLaws.{not_source, source_one, source_three, source_four, not_held, not_held_due, refusal_due, refused_gives, no_source_fault}
@@ -35,16 +35,16 @@ module _ (source : List ℕ) (before after : Outside) (status : ℕ) where
   done_by (Bad fault) (cause, is, put) e = absurd (not_source fault 0 (sym is ∙ e) (inl refl))
   done_by (Good p) (cause, is, put) e = (p, cause, put)
 
-  one_only : (v : CheckVerdict) → Settles v → status ≡ 1 → SourceRefuses AnyProgram source before after
-  one_only (Bad fault) (cause, is, put) e = source_one AnyProgram source before after fault cause (sym is ∙ e) put
+  one_only : (v : CheckVerdict) → Settles v → status ≡ 1 → SourceRefuses source before after
+  one_only (Bad fault) (cause, is, put) e = source_one source before after fault cause (sym is ∙ e) put
   one_only (Good p) (cause, is, put) e = absurd (omega (arith, is, e))
 
   three_only : (v : CheckVerdict) → Settles v → status ≡ 3 → IfTold before.files (λ held. held source ≡ None)
-  three_only (Bad fault) (cause, is, put) e = source_three AnyProgram source before after fault cause (sym is ∙ e)
+  three_only (Bad fault) (cause, is, put) e = source_three source before after fault cause (sym is ∙ e)
   three_only (Good p) (cause, is, put) e = absurd (omega (arith, is, e))
 
   four_only : (v : CheckVerdict) → Settles v → status ≡ 4 → Rose before.files.read_faults after.files.read_faults
-  four_only (Bad fault) (cause, is, put) e = source_four AnyProgram source before after fault cause (sym is ∙ e)
+  four_only (Bad fault) (cause, is, put) e = source_four source before after fault cause (sym is ∙ e)
   four_only (Good p) (cause, is, put) e = absurd (omega (arith, is, e))
 
   pub check_four : Checks source before after status → status ≡ 4 → Rose before.files.read_faults after.files.read_faults
@@ -60,26 +60,26 @@ module _ (source : List ℕ) (before after : Outside) (status : ℕ) where
   module _ (held : Held) (told : before.files.told ≡ Some held) where
     -- Where the source isn't held, that is the verdict.
     not_held_is_due : held source ≡ None → (v : CheckVerdict) → CheckCause source before.files after.files v → DueOrYielded (check_status v) status → DueOrYielded 3 status
-    not_held_is_due none (Bad fault) cause ends = subst (λ (n : ℕ). DueOrYielded n status) (not_held_due AnyProgram source before after held told fault none cause) ends
-    not_held_is_due none (Good p) cause ends = absurd (not_held AnyProgram source before after held told _ none cause.1)
+    not_held_is_due none (Bad fault) cause ends = subst (λ (n : ℕ). DueOrYielded n status) (not_held_due source before after held told fault none cause) ends
+    not_held_is_due none (Good p) cause ends = absurd (not_held source before after held told _ none cause)
 
     -- Where a text is held that is refused, and no read fault was counted, that is the verdict.
-    refusal_is_due : (text : List ℕ) (reading : Reading) → held source ≡ Some text → length text ≤ LONGEST_FILE → Reads text reading → IsRefused AnyProgram reading
+    refusal_is_due : (text : List ℕ) (reading : Reading) → held source ≡ Some text → length text ≤ LONGEST_FILE → Reads text reading → IsRefused reading
         → (Rose before.files.read_faults after.files.read_faults → ⊥) → (v : CheckVerdict) → CheckCause source before.files after.files v → (check_status v ≡ 1) × (check_text source v ≡ refusal_line reading)
-    refusal_is_due text reading is small reads unfit unread (Bad fault) cause = refusal_due AnyProgram source before after held told text reading is small reads unread fault cause
-    refusal_is_due text reading is small reads unfit unread (Good p) cause = absurd (refused_gives AnyProgram source before after held told text reading p is reads unfit cause)
+    refusal_is_due text reading is small reads unfit unread (Bad fault) cause = refusal_due source before after held told text reading is small reads unread fault cause
+    refusal_is_due text reading is small reads unfit unread (Good p) cause = absurd (refused_gives source before after held told text reading p is reads unfit cause)
 
     -- Where a program is held that passes, and no read fault was counted, the verdict is that.
     passed : (text : List ℕ) (p : ProgramTree) → held source ≡ Some text → Spells text p → Passes p → (Rose before.files.read_faults after.files.read_faults → ⊥)
         → (v : CheckVerdict) → CheckCause source before.files after.files v → check_status v ≡ 0
-    passed text p is spells passes unread (Bad fault) cause = absurd (no_source_fault AnyProgram source before after held told text p is spells passes tt unread fault cause)
+    passed text p is spells passes unread (Bad fault) cause = absurd (no_source_fault source before after held told text p is spells passes unread fault cause)
     passed text p is spells passes unread (Good q) cause = refl
 
   three_when : Checks source before after status → (held : Held) → before.files.told ≡ Some held → held source ≡ None → DueOrYielded 3 status
   three_when (keeps, inl h) held told none = inr (inr h.0)
   three_when (keeps, inr (v, cause, ends)) held told none = not_held_is_due held told none v cause (line_due _ _ _ _ _ ends)
 
-  tells : Checks source before after status → SourceTells AnyProgram source before after status
+  tells : Checks source before after status → SourceTells source before after status
   tells (keeps, inl h) held text reading told is small reads unfit unread = inr (inr h)
   tells (keeps, inr (v, cause, ends)) held text reading told is small reads unfit unread =
       let due = refusal_is_due held told text reading is small reads unfit unread v cause in

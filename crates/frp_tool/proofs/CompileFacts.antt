@@ -1,5 +1,5 @@
 -- The steps of `compile`, put together.
-use Rattle.std.proofs.Common.{◌≡◌, ◌≢◌, ℕ, ◌≤◌, List, Option, Some, None, Result, Ok, Err, String, string_bytes, inl, inr, arith, refl, ◌∙◌, ap, subst}
+use Rattle.std.proofs.Common.{◌≡◌, ◌≢◌, ℕ, ◌≤◌, List, Option, Some, None, Result, Ok, Err, String, string_bytes, ◌⊎◌, inl, inr, arith, refl, ◌∙◌, ap, subst}
 use Rattle.std.specs.declared.alloc.Global.{Global}
 use Rattle.edge_io.specs.Files.{FilesSeen, SameFiles, SameOthers, Replaces, BothTold, KeepsFiles}
 use Rattle.edge_io.specs.Sinks.{SinkSeen}
@@ -8,19 +8,35 @@ use Rattle.frp_tool.specs.declared.halts.Halt.{Halt}
 use Rattle.frp_tool.specs.declared.halts.Halt.TheVariants.{Said, PutFailed, Memory}
 use Rattle.frp_tool.specs.Outsides.{Outside}
 use Rattle.frp_tool.specs.Endings.{Ends, Gives, Finishes}
-use Rattle.counter_code.specs.Counters.{HasFirstForm}
+use Rattle.frp_tree.specs.Tree.{ProgramTree}
+use Rattle.firmware.specs.Builds.{IsBuildFault}
+use Rattle.firmware.specs.declared.faults.BuildFault.{BuildFault}
+use Rattle.firmware.specs.declared.faults.BuildFault.TheVariants as build
+use Rattle.frp_tool.specs.Lines.{build_line}
 use Rattle.frp_tool.specs.SourceTexts.{SourceGives, SourceCause, source_status, source_line}
 use Rattle.frp_tool.specs.Writes.{Stores}
-use Rattle.frp_tool.specs.Compiles.{CompileRequest, Firmware, CompileVerdict, CompileComes, CompileLeft, NoProgram, HexFailed, MapFailed, Done, compile_status, compile_line, CompileWorks, Compiles}
+use Rattle.frp_tool.specs.Compiles.{CompileRequest, Firmware, CompileVerdict, IsCompiled, CompileComes, CompileLeft, NoProgram, Unbuilt, HexFailed, MapFailed, Done, compile_status, compile_line, CompileWorks, Compiles}
 use Rattle.frp_tool.proofs.ToldFacts.{chain, keeps_trans}
 
 -- The program wasn't read.
-pub unread_works : {A : Type 0} (Good : A → Type 0) (r : CompileRequest) (a b : FilesSeen) (e : Halt) → KeepsFiles a b → Gives Good (SourceCause HasFirstForm r.source a b) source_status (source_line r.source) (Err e) → CompileWorks r a b (Err e)
+pub unread_works : {A : Type 0} (Good : A → Type 0) (r : CompileRequest) (a b : FilesSeen) (e : Halt) → KeepsFiles a b → Gives Good (SourceCause r.source a b) source_status (source_line r.source) (Err e) → CompileWorks r a b (Err e)
 unread_works Good r a b (Said due line) keeps (fault, cause, is, said) = (NoProgram fault, (cause, keeps), is, said)
 unread_works Good r a b PutFailed keeps gives = gives
 unread_works Good r a b Memory keeps gives = inl (inl keeps)
 
-module _ (r : CompileRequest) (a b c : FilesSeen) (f : Firmware) (spells : SourceGives HasFirstForm r.source a f.program) (keeps : KeepsFiles a b) (fewer : a.write_faults ≤ b.write_faults) where
+-- A fault that isn't out of memory is the program's.
+pub is_fault : (p : ProgramTree) (fault : BuildFault) → fault ≢ build.Memory → (fault ≡ build.Memory) ⊎ IsBuildFault p fault → IsBuildFault p fault
+is_fault p fault other (inl memory) = absurd (other memory)
+is_fault p fault other (inr has) = has
+
+-- Nothing was built of it.
+pub unbuilt_works : {A : Type 0} (Good : A → Type 0) (r : CompileRequest) (a b : FilesSeen) (p : ProgramTree) (e : Halt) → KeepsFiles a b → SourceGives r.source a p
+    → Gives Good (IsBuildFault p) (λ (fault : BuildFault). 1) build_line (Err e) → CompileWorks r a b (Err e)
+unbuilt_works Good r a b p (Said due line) keeps spells (fault, has, is, said) = (Unbuilt p fault, ((spells, has), keeps), is, said)
+unbuilt_works Good r a b p PutFailed keeps spells gives = gives
+unbuilt_works Good r a b p Memory keeps spells gives = inl (inl keeps)
+
+module _ (r : CompileRequest) (a b c : FilesSeen) (f : Firmware) (spells : IsCompiled r a f.program) (keeps : KeepsFiles a b) (fewer : a.write_faults ≤ b.write_faults) where
   -- HEX wasn't written.
   pub hex_works : (bytes : List ℕ) (e : Halt) → Stores b c r.hex bytes (Err e) → CompileWorks r a c (Err e)
   hex_works bytes (Said due line) ((rose, left), is, said) =

@@ -2,10 +2,7 @@ pub mod CheckFacts
 pub mod CheckLaws
 pub mod CompileFacts
 pub mod CompileLaws
-pub mod CounterPartFacts
-pub mod CounterPassesFacts
 pub mod EndingFacts
-pub mod FirstFormFacts
 pub mod ModelFacts
 pub mod ModelLaws
 pub mod NextFacts
@@ -14,7 +11,6 @@ pub mod RunEndingFacts
 pub mod RunLaws
 pub mod RunStepFacts
 pub mod SerialTextFacts
-pub mod SourceFacts
 pub mod SourceLaws
 pub mod SourceStepFacts
 pub mod SummaryFacts

@@ -16,7 +16,7 @@ use Rattle.frp_tool.specs.declared.halts.Halt.TheVariants.{Said, PutFailed, Memo
 use Rattle.frp_tool.specs.Outsides.{Outside}
 use Rattle.frp_tool.specs.Endings.{Ends, Gives, Finishes}
 use Rattle.frp_tool.specs.Reads.{unread_status, unread_line, IsUnread, IsInput}
-use Rattle.frp_tool.specs.SourceTexts.{AnyProgram, IsRefused, refusal_line}
+use Rattle.frp_tool.specs.SourceTexts.{IsRefused, refusal_line}
 use Rattle.frp_tool.specs.Models.{ModelRequest, ModelTexts, AreModelTexts, ModelFault, FileUnread, Refused, Unknown, TooMany, model_fault_status, model_fault_line, IsFirstModelFault, ModelFaultCause, IsModel, ModelVerdict, NoModel, Modelled, ModelWorks, Models}
 use Rattle.frp_tool.proofs.RunStepFacts.{halts, first_unread, second_unread}
 
@@ -35,9 +35,9 @@ events_unread Good r a b c e text keeps less is =
 
 -- The source is refused.
 pub source_refused : {A B : Type 0} (Good : A → Type 0) (Good' : B → Type 0) (t : ModelTexts) (slice : List ℕ) (e : Halt) → slice ≡ t.source
-    → Gives Good (λ (reading : Reading). IsRead slice reading × IsRefused AnyProgram reading) (λ reading. 1) refusal_line (Err e) → Gives Good' (IsFirstModelFault t) model_fault_status model_fault_line (Err e)
+    → Gives Good (λ (reading : Reading). IsRead slice reading × IsRefused reading) (λ reading. 1) refusal_line (Err e) → Gives Good' (IsFirstModelFault t) model_fault_status model_fault_line (Err e)
 source_refused Good Good' t slice e same =
-    halts Good Good' (λ (reading : Reading). IsRead slice reading × IsRefused AnyProgram reading) (IsFirstModelFault t) (λ reading. 1) model_fault_status refusal_line model_fault_line e
+    halts Good Good' (λ (reading : Reading). IsRead slice reading × IsRefused reading) (IsFirstModelFault t) (λ reading. 1) model_fault_status refusal_line model_fault_line e
     (λ reading bad. (Refused reading, (subst (λ (text : List ℕ). IsRead text reading) same bad.0, bad.1), refl, refl))
 
 -- What was read of both files.

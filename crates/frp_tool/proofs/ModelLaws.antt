@@ -10,7 +10,7 @@ use Rattle.event_file.specs.Events.{first_unknown, told_events}
 use Rattle.frp_tool.specs.Outsides.{Outside}
 use Rattle.frp_tool.specs.Endings.{Ends, DueOrYielded}
 use Rattle.frp_tool.specs.Reads.{Unread, NotHeld, NotRead, TooLong, IsReadable, IsLong, IsNext}
-use Rattle.frp_tool.specs.SourceTexts.{AnyProgram, refusal_line}
+use Rattle.frp_tool.specs.SourceTexts.{refusal_line}
 use Rattle.frp_tool.specs.Models.{ModelRequest, names_of, ModelTexts, AreModelTexts, ModelFault, FileUnread, Refused, Unknown, TooMany, model_fault_status, model_fault_line, IsFirstModelFault, ModelVerdict, NoModel, Modelled, model_status, model_put, ModelCause, Models, ModelDone, ModelRefuses, ModelTells, ModelMisses, ModelCompletes, ModelPromises}
 use Rattle.frp_tool.proofs.ToldFacts.{if_both, at_told}
 use Rattle.frp_tool.proofs.EndingFacts.{line_due, line_settled}
@@ -24,7 +24,7 @@ same_program text p q read reads = let e : Passing p ≡ Passing q = read.1 (Pas
 -- Where there is a model of the bytes, they have no fault.
 no_fault : (t : ModelTexts) (p : ProgramTree) → Reads t.source (Passing p) → first_unknown p t.events ≡ None → length (told_events t.events) ≤ 10000 → (fault : ModelFault) → IsFirstModelFault t fault → ⊥
 no_fault t p reads known few (FileUnread name why) is = is
-no_fault t p reads known few (Refused reading) is = fits AnyProgram t.source p reading tt reads is.0 is.1
+no_fault t p reads known few (Refused reading) is = fits t.source p reading reads is.0 is.1
 no_fault t p reads known few (Unknown n) (q, read, unknown) =
     let unknown' : first_unknown p t.events ≡ Some n = subst (λ (x : ProgramTree). first_unknown x t.events ≡ Some n) (same_program t.source p q read reads) unknown in cc
 no_fault t p reads known few TooMany (q, read, many) = omega (arith, few, many.1)
@@ -34,17 +34,17 @@ one_fault : (t : ModelTexts) (f g : ModelFault) → IsFirstModelFault t f → Is
 one_fault t (FileUnread name why) g is is' = absurd is
 one_fault t (Refused x) (FileUnread name why) is is' = absurd is'
 one_fault t (Refused x) (Refused y) is is' = ap refusal_line (sym (is.0.1 y is'.0.0))
-one_fault t (Refused x) (Unknown n) is (q, read, unknown) = absurd (fits AnyProgram t.source q x tt read.0 is.0 is.1)
-one_fault t (Refused x) TooMany is (q, read, many) = absurd (fits AnyProgram t.source q x tt read.0 is.0 is.1)
+one_fault t (Refused x) (Unknown n) is (q, read, unknown) = absurd (fits t.source q x read.0 is.0 is.1)
+one_fault t (Refused x) TooMany is (q, read, many) = absurd (fits t.source q x read.0 is.0 is.1)
 one_fault t (Unknown n) (FileUnread name why) is is' = absurd is'
-one_fault t (Unknown n) (Refused y) (p, read, unknown) is' = absurd (fits AnyProgram t.source p y tt read.0 is'.0 is'.1)
+one_fault t (Unknown n) (Refused y) (p, read, unknown) is' = absurd (fits t.source p y read.0 is'.0 is'.1)
 one_fault t (Unknown n) (Unknown m) (p, read, unknown) (q, read', unknown') =
     let other : first_unknown p t.events ≡ Some m = subst (λ (x : ProgramTree). first_unknown x t.events ≡ Some m) (same_program t.source p q read' read.0) unknown' in
     let same : n ≡ m = cc in ap (λ (k : ℕ). model_fault_line (Unknown k)) same
 one_fault t (Unknown n) TooMany (p, read, unknown) (q, read', many) =
     let none : first_unknown p t.events ≡ None = subst (λ (x : ProgramTree). first_unknown x t.events ≡ None) (same_program t.source p q read' read.0) many.0 in absurd cc
 one_fault t TooMany (FileUnread name why) is is' = absurd is'
-one_fault t TooMany (Refused y) (p, read, many) is' = absurd (fits AnyProgram t.source p y tt read.0 is'.0 is'.1)
+one_fault t TooMany (Refused y) (p, read, many) is' = absurd (fits t.source p y read.0 is'.0 is'.1)
 one_fault t TooMany (Unknown m) (p, read, many) (q, read', unknown) =
     let none : first_unknown q t.events ≡ None = subst (λ (x : ProgramTree). first_unknown x t.events ≡ None) (same_program t.source q p read read'.0) many.0 in absurd cc
 one_fault t TooMany TooMany is is' = refl

@@ -17,9 +17,9 @@ use Rattle.frp_tool.proofs.ToldFacts.{if_map, at_told}
 pub short : (text : List ℕ) (p : ProgramTree) → Spells text p → LONGEST_FILE < length text → ⊥
 short text p spells long = omega (arith, spells.cut.0, long)
 
--- What is read as a program that a command takes isn't refused.
-pub fits : (Takes : ProgramTree → Type 0) (text : List ℕ) (p : ProgramTree) (reading : Reading) → Takes p → Reads text (Passing p) → IsRead text reading → IsRefused Takes reading → ⊥
-fits Takes text p reading takes reads read unfit = subst (IsRefused Takes) (sym (read.1 (Passing p) reads)) unfit takes
+-- What is read as a program isn't refused.
+pub fits : (text : List ℕ) (p : ProgramTree) (reading : Reading) → Reads text (Passing p) → IsRead text reading → IsRefused reading → ⊥
+fits text p reading reads read unfit = subst IsRefused (sym (read.1 (Passing p) reads)) unfit
 
 -- Two refusals of a text have the same line.
 same_line : (text : List ℕ) (some other : Reading) → IsRead text some → Reads text other → refusal_line some ≡ refusal_line other
@@ -36,21 +36,21 @@ not_source (SourceUnread NotRead) n e other = omega (arith, e, other)
 not_source (SourceUnread TooLong) n e other = omega (arith, e, other)
 not_source (Refused reading) n e other = omega (arith, e, other)
 
-module _ (Takes : ProgramTree → Type 0) (source : List ℕ) (before after : Outside) where
+module _ (source : List ℕ) (before after : Outside) where
   -- Why there is no program, by the status.
-  pub source_one : (fault : SourceFault) → SourceCause Takes source before.files after.files fault → source_status fault ≡ 1 → Appends before.out.taken after.out.taken (source_line source fault) → SourceRefuses Takes source before after
+  pub source_one : (fault : SourceFault) → SourceCause source before.files after.files fault → source_status fault ≡ 1 → Appends before.out.taken after.out.taken (source_line source fault) → SourceRefuses source before after
   source_one (SourceUnread NotHeld) cause e put = absurd (omega (arith, e))
   source_one (SourceUnread NotRead) cause e put = absurd (omega (arith, e))
   source_one (SourceUnread TooLong) cause e put = inl cause
   source_one (Refused reading) cause e put = inr (reading, if_map before.files _ _ (λ held at. (at.0, at.1, at.2.1)) cause.0, cause.1, put)
 
-  pub source_three : (fault : SourceFault) → SourceCause Takes source before.files after.files fault → source_status fault ≡ 3 → IfTold before.files (λ held. held source ≡ None)
+  pub source_three : (fault : SourceFault) → SourceCause source before.files after.files fault → source_status fault ≡ 3 → IfTold before.files (λ held. held source ≡ None)
   source_three (SourceUnread NotHeld) cause e = cause
   source_three (SourceUnread NotRead) cause e = absurd (omega (arith, e))
   source_three (SourceUnread TooLong) cause e = absurd (omega (arith, e))
   source_three (Refused reading) cause e = absurd (omega (arith, e))
 
-  pub source_four : (fault : SourceFault) → SourceCause Takes source before.files after.files fault → source_status fault ≡ 4 → Rose before.files.read_faults after.files.read_faults
+  pub source_four : (fault : SourceFault) → SourceCause source before.files after.files fault → source_status fault ≡ 4 → Rose before.files.read_faults after.files.read_faults
   source_four (SourceUnread NotHeld) cause e = absurd (omega (arith, e))
   source_four (SourceUnread NotRead) cause e = cause.0
   source_four (SourceUnread TooLong) cause e = absurd (omega (arith, e))
@@ -73,7 +73,7 @@ module _ (Takes : ProgramTree → Type 0) (source : List ℕ) (before after : Ou
     missing text is none = let at : held source ≡ None = at_told before.files held (λ h. h source ≡ None) told none in cc
 
     -- Where the source isn't held, that is the fault.
-    pub not_held_due : (fault : SourceFault) → held source ≡ None → SourceCause Takes source before.files after.files fault → source_status fault ≡ 3
+    pub not_held_due : (fault : SourceFault) → held source ≡ None → SourceCause source before.files after.files fault → source_status fault ≡ 3
     not_held_due (SourceUnread NotHeld) none cause = refl
     not_held_due (SourceUnread NotRead) none cause = absurd (not_held _ none cause.1)
     not_held_due (SourceUnread TooLong) none cause = absurd (not_held _ none cause)
@@ -81,20 +81,26 @@ module _ (Takes : ProgramTree → Type 0) (source : List ℕ) (before after : Ou
 
     -- Where a text is held that is refused, and no read fault was counted, that is the fault; and none gives a program.
     pub refusal_due : (text : List ℕ) (reading : Reading) → held source ≡ Some text → length text ≤ LONGEST_FILE → Reads text reading → (Rose before.files.read_faults after.files.read_faults → ⊥)
-        → (fault : SourceFault) → SourceCause Takes source before.files after.files fault → (source_status fault ≡ 1) × (source_line source fault ≡ refusal_line reading)
+        → (fault : SourceFault) → SourceCause source before.files after.files fault → (source_status fault ≡ 1) × (source_line source fault ≡ refusal_line reading)
     refusal_due text reading is small reads unread (SourceUnread NotHeld) cause = absurd (missing text is cause)
     refusal_due text reading is small reads unread (SourceUnread NotRead) cause = absurd (unread cause.0)
     refusal_due text reading is small reads unread (SourceUnread TooLong) cause = let long = of_held text _ is cause in absurd (omega (arith, small, long))
     refusal_due text reading is small reads unread (Refused other) cause = let at = of_held text _ is cause.0 in (refl, same_line text other reading at.1 reads)
 
-    pub refused_gives : (text : List ℕ) (reading : Reading) (p : ProgramTree) → held source ≡ Some text → Reads text reading → IsRefused Takes reading → SourceGives Takes source before.files p → ⊥
+    pub refused_gives : (text : List ℕ) (reading : Reading) (p : ProgramTree) → held source ≡ Some text → Reads text reading → IsRefused reading → SourceGives source before.files p → ⊥
     refused_gives text reading p is reads unfit gives =
-        let read = of_held text _ is gives.1 in fits Takes text p reading gives.0 read.0 (read_as text (Passing p) reading read reads) unfit
+        let read = of_held text _ is gives in fits text p reading read.0 (read_as text (Passing p) reading read reads) unfit
 
-    -- Where a program is held that the command takes, and no read fault was counted, there is no fault.
-    pub no_source_fault : (text : List ℕ) (p : ProgramTree) → held source ≡ Some text → Spells text p → Passes p → Takes p → (Rose before.files.read_faults after.files.read_faults → ⊥)
-        → (fault : SourceFault) → SourceCause Takes source before.files after.files fault → ⊥
-    no_source_fault text p is spells passes takes unread (SourceUnread NotHeld) cause = missing text is cause
-    no_source_fault text p is spells passes takes unread (SourceUnread NotRead) cause = unread cause.0
-    no_source_fault text p is spells passes takes unread (SourceUnread TooLong) cause = short text p spells (of_held text _ is cause)
-    no_source_fault text p is spells passes takes unread (Refused reading) cause = let at = of_held text _ is cause.0 in fits Takes text p reading takes (spells, passes) at.1 cause.1
+    -- The program that is given is the one that a text spells which is held.
+    pub given_is : (text : List ℕ) (p q : ProgramTree) → held source ≡ Some text → Spells text p → Passes p → SourceGives source before.files q → p ≡ q
+    given_is text p q is spells passes gives =
+        let read = of_held text _ is gives in
+        let same : Passing p ≡ Passing q = read.1 (Passing p) (spells, passes) in cc
+
+    -- Where a program is held that passes, and no read fault was counted, there is no fault.
+    pub no_source_fault : (text : List ℕ) (p : ProgramTree) → held source ≡ Some text → Spells text p → Passes p → (Rose before.files.read_faults after.files.read_faults → ⊥)
+        → (fault : SourceFault) → SourceCause source before.files after.files fault → ⊥
+    no_source_fault text p is spells passes unread (SourceUnread NotHeld) cause = missing text is cause
+    no_source_fault text p is spells passes unread (SourceUnread NotRead) cause = unread cause.0
+    no_source_fault text p is spells passes unread (SourceUnread TooLong) cause = short text p spells (of_held text _ is cause)
+    no_source_fault text p is spells passes unread (Refused reading) cause = let at = of_held text _ is cause.0 in fits text p reading (spells, passes) at.1 cause.1

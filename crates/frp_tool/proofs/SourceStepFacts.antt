@@ -6,34 +6,29 @@ use Rattle.checked_source.specs.Readings.{Reading, Passing, IsRead}
 use Rattle.frp_tool.specs.declared.halts.Halt.{Halt}
 use Rattle.frp_tool.specs.Endings.{Gives}
 use Rattle.frp_tool.specs.Reads.{unread_status, unread_line, IsUnread, IsInput}
-use Rattle.frp_tool.specs.SourceTexts.{AnyProgram, IsRefused, refusal_line, SourceGives, SourceUnread, Refused, source_status, source_line, SourceCause}
+use Rattle.frp_tool.specs.SourceTexts.{IsRefused, refusal_line, SourceGives, SourceUnread, Refused, source_status, source_line, SourceCause}
 use Rattle.frp_tool.proofs.ToldFacts.{if_map}
 use Rattle.frp_tool.proofs.RunStepFacts.{halts}
 
--- What no command takes, none takes that takes less.
-pub refused_by_all : (Takes : ProgramTree → Type 0) (reading : Reading) → IsRefused AnyProgram reading → IsRefused Takes reading
-refused_by_all Takes (Passing p) unfit = absurd (unfit tt)
-refused_by_all Takes _ unfit = tt
-
-module _ (Takes : ProgramTree → Type 0) (source : List ℕ) (a b : FilesSeen) where
+module _ (source : List ℕ) (a b : FilesSeen) where
   -- A source that wasn't read gives no program.
   pub source_unread : {A : Type 0} (Good : A → Type 0) (e : Halt) → Gives (IsInput source a) (IsUnread source a b) unread_status (unread_line source) (Err e)
-      → Gives Good (SourceCause Takes source a b) source_status (source_line source) (Err e)
+      → Gives Good (SourceCause source a b) source_status (source_line source) (Err e)
   source_unread Good e =
-      halts (IsInput source a) Good (IsUnread source a b) (SourceCause Takes source a b) unread_status source_status (unread_line source) (source_line source) e (λ why is. (SourceUnread why, is, refl, refl))
+      halts (IsInput source a) Good (IsUnread source a b) (SourceCause source a b) unread_status source_status (unread_line source) (source_line source) e (λ why is. (SourceUnread why, is, refl, refl))
 
   -- One that was gives the program that it spells, or is refused.
   module _ (text slice : List ℕ) (is : IsInput source a text) (same : slice ≡ text) where
-    pub source_gives : (p : ProgramTree) → Takes p → IsRead slice (Passing p) → SourceGives Takes source a p
-    source_gives p takes read = (takes, if_map a _ _ (λ held at. (text, at, subst (λ (t : List ℕ). IsRead t (Passing p)) same read)) is.0)
+    pub source_gives : (p : ProgramTree) → IsRead slice (Passing p) → SourceGives source a p
+    source_gives p read = if_map a _ _ (λ held at. (text, at, subst (λ (t : List ℕ). IsRead t (Passing p)) same read)) is.0
 
-    source_refused : (reading : Reading) → IsRead slice reading → IsRefused Takes reading → SourceCause Takes source a b (Refused reading)
+    source_refused : (reading : Reading) → IsRead slice reading → IsRefused reading → SourceCause source a b (Refused reading)
     source_refused reading read unfit = (if_map a _ _ (λ held at. (text, at, (is.1, subst (λ (t : List ℕ). IsRead t reading) same read))) is.0, unfit)
 
     pub source_read : {A : Type 0} (Good Good' : A → Type 0) (answer : Result A Halt) → ((x : A) → Good x → Good' x)
-        → Gives Good (λ (reading : Reading). IsRead slice reading × IsRefused Takes reading) (λ reading. 1) refusal_line answer
-        → Gives Good' (SourceCause Takes source a b) source_status (source_line source) answer
+        → Gives Good (λ (reading : Reading). IsRead slice reading × IsRefused reading) (λ reading. 1) refusal_line answer
+        → Gives Good' (SourceCause source a b) source_status (source_line source) answer
     source_read Good Good' (Ok x) step gives = step x gives
     source_read Good Good' (Err e) step gives =
-        halts Good Good' (λ (reading : Reading). IsRead slice reading × IsRefused Takes reading) (SourceCause Takes source a b) (λ reading. 1) source_status refusal_line (source_line source) e
+        halts Good Good' (λ (reading : Reading). IsRead slice reading × IsRefused reading) (SourceCause source a b) (λ reading. 1) source_status refusal_line (source_line source) e
         (λ reading bad. (Refused reading, source_refused reading bad.0 bad.1, refl, refl)) gives

@@ -11,7 +11,7 @@ use Rattle.frp_tool.specs.declared.halts.Halt.{Halt}
 use Rattle.frp_tool.specs.Lines.{counts_line}
 use Rattle.frp_tool.specs.Outsides.{Outside}
 use Rattle.frp_tool.specs.Endings.{Ends, Gives}
-use Rattle.frp_tool.specs.SourceTexts.{AnyProgram, SourceGives, SourceFault, source_status, source_line, SourceCause, SourceRefuses, SourceTells, SourceMisses}
+use Rattle.frp_tool.specs.SourceTexts.{SourceGives, SourceFault, source_status, source_line, SourceCause, SourceRefuses, SourceTells, SourceMisses}
 
 -- What a `check` comes to: the source gives no program, or a program that passes.
 pub data CheckVerdict : Type 0 where
@@ -28,14 +28,14 @@ check_text source (Good p) = counts_line p
 
 -- Why a verdict comes.
 abbrev pub CheckCause : List ℕ → FilesSeen → FilesSeen → CheckVerdict → Type 0
-CheckCause source before after (Bad fault) = SourceCause AnyProgram source before after fault
-CheckCause source before after (Good p) = SourceGives AnyProgram source before p
+CheckCause source before after (Bad fault) = SourceCause source before after fault
+CheckCause source before after (Good p) = SourceGives source before p
 
 -- What the work of a `check` comes to before its line is put.
 abbrev pub CheckWorks : List ℕ → FilesSeen → FilesSeen → Result (Option (String Global)) Halt → Type 0
 CheckWorks source before after =
-    Gives (λ (line : Option (String Global)). (p : ProgramTree) × (text : String Global) × (line ≡ Some text) × SourceGives AnyProgram source before p × (string_bytes text ≡ counts_line p))
-    (SourceCause AnyProgram source before after) source_status (source_line source)
+    Gives (λ (line : Option (String Global)). (p : ProgramTree) × (text : String Global) × (line ≡ Some text) × SourceGives source before p × (string_bytes text ≡ counts_line p))
+    (SourceCause source before after) source_status (source_line source)
 
 -- How a call of `check` ends. No file changes. Memory ran out before there was a verdict, and nothing was put; or there is a
 -- verdict, with its cause, its status and its line.
@@ -48,7 +48,7 @@ Checks source before after status =
 -- With 0, where files and the bytes put are told, the source spells a program that passes the checks, and no other; and the line
 -- with its counts was put.
 abbrev pub CheckDone : List ℕ → Outside → Outside → Type 0
-CheckDone source before after = (p : ProgramTree) × SourceGives AnyProgram source before.files p × Appends before.out.taken after.out.taken (counts_line p)
+CheckDone source before after = (p : ProgramTree) × SourceGives source before.files p × Appends before.out.taken after.out.taken (counts_line p)
 
 -- Where files are told, the source spells a program that passes the checks, and no fault is counted, the status is 0 or 6.
 abbrev pub CheckCompletes : List ℕ → Outside → Outside → ℕ → Type 0
@@ -60,8 +60,8 @@ CheckCompletes source before after status = (held : Held) (text : List ℕ) (p :
 pub record CheckPromises (source : List ℕ) (before after : Outside) (status : ℕ) : Type 0 where
   pub ends : Checks source before after status
   pub done : status ≡ 0 → CheckDone source before after
-  pub one : status ≡ 1 → SourceRefuses AnyProgram source before after
-  pub told : SourceTells AnyProgram source before after status
+  pub one : status ≡ 1 → SourceRefuses source before after
+  pub told : SourceTells source before after status
   pub three : SourceMisses source before status
   pub files : KeepsFiles before.files after.files
   pub complete : CheckCompletes source before after status

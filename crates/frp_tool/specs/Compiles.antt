@@ -1,5 +1,5 @@
 -- What is promised of `compile SRC HEX MAP`.
-use Rattle.std.specs.Prelude.{◌≡◌, ℕ, List, Option, Some, None, Result, Ok, Err, String, string_bytes, codes, ◌⊎◌}
+use Rattle.std.specs.Prelude.{◌≡◌, ◌≢◌, ℕ, List, Option, Some, None, Result, Ok, Err, String, string_bytes, codes, ◌⊎◌}
 use Rattle.std.specs.declared.alloc.Global.{Global}
 use Rattle.edge_io.specs.Files.{Held, FilesSeen, SameOthers, BothTold, KeepsFiles}
 use Rattle.edge_io.specs.Sinks.{Appends}
@@ -10,11 +10,14 @@ use Rattle.firmware_promises.specs.Firmware.{IsFirmware}
 use Rattle.core_steps.specs.Scheduled.{IsScheduled}
 use Rattle.frp_tree.specs.Tree.{ProgramTree}
 use Rattle.frp_tree.specs.Grammar.{Spells}
-use Rattle.counter_code.specs.declared.counters.Counter.{Counter}
-use Rattle.counter_code.specs.Counters.{HasFirstForm, program_of}
+use Rattle.efrp_meaning.specs.Bounds.{Fits}
+use Rattle.efrp_types.specs.Passes.{Passes}
+use Rattle.firmware.specs.Builds.{HasCode, IsBuildable, IsBuildFault}
+use Rattle.firmware.specs.declared.faults.BuildFault.{BuildFault}
+use Rattle.firmware.specs.declared.faults.BuildFault.TheVariants.{Code}
 use Rattle.frp_tool.specs.declared.halts.Halt.{Halt}
 use Rattle.frp_tool.specs.declared.halts.Halt.TheVariants as halt
-use Rattle.frp_tool.specs.Lines.{named_line, summary}
+use Rattle.frp_tool.specs.Lines.{named_line, build_line, summary}
 use Rattle.frp_tool.specs.Outsides.{Outside}
 use Rattle.frp_tool.specs.Endings.{Ends}
 use Rattle.frp_tool.specs.SourceTexts.{SourceGives, SourceFault, source_status, source_line, SourceCause, SourceRefuses, SourceTells, SourceMisses}
@@ -35,9 +38,11 @@ pub record Firmware : Type 0 where
   pub is_firmware : IsFirmware program hex (map_text map)
   pub is_scheduled : IsScheduled program hex (map_text map)
 
--- What a `compile` comes to: the source gives no program of the first form; its HEX wasn't written; its map wasn't written; all was done.
+-- What a `compile` comes to: the source gives no program; nothing is built of its program; HEX wasn't written; the map wasn't
+-- written; all was done.
 pub data CompileVerdict : Type 0 where
   NoProgram : SourceFault → CompileVerdict
+  Unbuilt : ProgramTree → BuildFault → CompileVerdict
   HexFailed : ProgramTree → CompileVerdict
   MapFailed : Firmware → CompileVerdict
   Done : Firmware → CompileVerdict
@@ -45,6 +50,7 @@ pub data CompileVerdict : Type 0 where
 -- The status that is due.
 abbrev pub compile_status : CompileVerdict → ℕ
 compile_status (NoProgram fault) = source_status fault
+compile_status (Unbuilt p fault) = 1
 compile_status (HexFailed p) = 5
 compile_status (MapFailed f) = 5
 compile_status (Done f) = 0
@@ -52,16 +58,22 @@ compile_status (Done f) = 0
 -- The line that is to be put.
 abbrev pub compile_line : CompileRequest → CompileVerdict → List ℕ
 compile_line r (NoProgram fault) = source_line r.source fault
+compile_line r (Unbuilt p fault) = build_line fault
 compile_line r (HexFailed p) = named_line (codes "write failed: ") r.hex
 compile_line r (MapFailed f) = named_line (codes "write failed: ") r.map
 compile_line r (Done f) = summary f.map f.program
 
+-- The source gives this program, and it is built.
+abbrev pub IsCompiled : CompileRequest → FilesSeen → ProgramTree → Type 0
+IsCompiled r before p = SourceGives r.source before p × IsBuildable p
+
 -- Why a verdict comes.
 abbrev pub CompileCause : CompileRequest → FilesSeen → FilesSeen → CompileVerdict → Type 0
-CompileCause r before after (NoProgram fault) = SourceCause HasFirstForm r.source before after fault
-CompileCause r before after (HexFailed p) = SourceGives HasFirstForm r.source before p × Rose before.write_faults after.write_faults
-CompileCause r before after (MapFailed f) = SourceGives HasFirstForm r.source before f.program × Rose before.write_faults after.write_faults
-CompileCause r before after (Done f) = SourceGives HasFirstForm r.source before f.program
+CompileCause r before after (NoProgram fault) = SourceCause r.source before after fault
+CompileCause r before after (Unbuilt p fault) = SourceGives r.source before p × IsBuildFault p fault
+CompileCause r before after (HexFailed p) = IsCompiled r before p × Rose before.write_faults after.write_faults
+CompileCause r before after (MapFailed f) = IsCompiled r before f.program × Rose before.write_faults after.write_faults
+CompileCause r before after (Done f) = IsCompiled r before f.program
 
 -- HEX holds its bytes of the firmware, and MAP the text of the map.
 abbrev pub HexIsWhole : CompileRequest → Held → Firmware → Type 0
@@ -77,6 +89,7 @@ OthersAsBefore r old new = SameButTwo old new r.hex r.map
 -- The files that a verdict leaves. After a failed write the file of that name holds anything.
 abbrev pub CompileLeft : CompileRequest → FilesSeen → FilesSeen → CompileVerdict → Type 0
 CompileLeft r before after (NoProgram fault) = KeepsFiles before after
+CompileLeft r before after (Unbuilt p fault) = KeepsFiles before after
 CompileLeft r before after (HexFailed p) = BothTold before after (λ old new. SameOthers old new r.hex)
 CompileLeft r before after (MapFailed f) = BothTold before after (λ old new. HexIsWhole r new f × OthersAsBefore r old new)
 CompileLeft r before after (Done f) = BothTold before after (λ old new. HexIsWhole r new f × MapIsWhole r new f × OthersAsBefore r old new)
@@ -89,7 +102,7 @@ CompileComes r before after v = CompileCause r before after v × CompileLeft r b
 abbrev pub CompileCut : CompileRequest → FilesSeen → FilesSeen → Type 0
 CompileCut r before after =
     KeepsFiles before after
-    ⊎ ((f : Firmware) × SourceGives HasFirstForm r.source before f.program × BothTold before after (λ old new. HexIsWhole r new f × SameOthers old new r.hex))
+    ⊎ ((f : Firmware) × IsCompiled r before f.program × BothTold before after (λ old new. HexIsWhole r new f × SameOthers old new r.hex))
 
 -- What the work of a `compile` comes to before its line is put: a verdict, of which `Done` alone is no halt; or memory ran
 -- out, before there was a verdict or behind it.
@@ -107,18 +120,34 @@ Compiles r before after status =
     ((status ≡ 6) × (before.out.taken ≡ after.out.taken) × CompileCut r before.files after.files)
     ⊎ ((v : CompileVerdict) × CompileCause r before.files after.files v × CompileLeft r before.files after.files v × Ends before.out after.out (compile_status v) (compile_line r v) status)
 
--- With 0, where files and the bytes put are told, the source spells a program of the first form; HEX and MAP hold bytes that
--- are firmware for it and react in time, those of MAP being the text of a map; all other files are as before; and the summary
--- of that map was put.
+-- With 0, where files and the bytes put are told, the source spells a program that passes the checks, and no other; HEX and MAP
+-- hold bytes that are firmware for it and react in time, those of MAP being the text of a map; all other files are as before;
+-- and the summary of that map was put.
 abbrev pub CompileDone : CompileRequest → Outside → Outside → Type 0
-CompileDone r before after = (p : ProgramTree) × SourceGives HasFirstForm r.source before.files p
+CompileDone r before after = (p : ProgramTree) × SourceGives r.source before.files p
     × (hex : List ℕ) × (m : Map) × IsFirmware p hex (map_text m) × IsScheduled p hex (map_text m)
     × BothTold before.files after.files (λ old new. Has new r.hex hex × Has new r.map (map_text m) × OthersAsBefore r old new)
     × Appends before.out.taken after.out.taken (summary m p)
 
--- Where files are told, the source spells a program of the first form, and no fault is counted, the status is 0 or 6.
+-- 1 comes only where the source gives no program, as with `check`; or where the program that it gives has the fault whose line was
+-- put.
+abbrev pub CompileRefuses : CompileRequest → Outside → Outside → Type 0
+CompileRefuses r before after =
+    SourceRefuses r.source before after
+    ⊎ ((p : ProgramTree) × (fault : BuildFault) × SourceGives r.source before.files p × IsBuildFault p fault × Appends before.out.taken after.out.taken (build_line fault))
+
+-- Where files are told, the source spells a program that passes the checks and has a fault other than that of words, and no read
+-- fault is counted: the status is 1 and the fault's line is put, or it is 5 or 6. A program whose words are past their bound alone
+-- may still be built.
+abbrev pub BuildTells : CompileRequest → Outside → Outside → ℕ → Type 0
+BuildTells r before after status = (held : Held) (text : List ℕ) (p : ProgramTree) (fault : BuildFault) → before.files.told ≡ Some held → held r.source ≡ Some text → Spells text p → Passes p
+    → IsBuildFault p fault → ((n : ℕ) → fault ≢ Code n) → (Rose before.files.read_faults after.files.read_faults → ⊥)
+    → Ends before.out after.out 1 (build_line fault) status
+
+-- Where files are told, the source spells a program that passes the checks, has no input and no table and fits the chip by its
+-- bounds, and no fault is counted, the status is 0 or 6.
 abbrev pub CompileCompletes : CompileRequest → Outside → Outside → ℕ → Type 0
-CompileCompletes r before after status = (held : Held) (text : List ℕ) (p : ProgramTree) → before.files.told ≡ Some held → held r.source ≡ Some text → Spells text p → HasFirstForm p
+CompileCompletes r before after status = (held : Held) (text : List ℕ) (p : ProgramTree) → before.files.told ≡ Some held → held r.source ≡ Some text → Spells text p → Passes p → HasCode p → Fits p
     → (Rose before.files.read_faults after.files.read_faults → ⊥) → (Rose before.files.write_faults after.files.write_faults → ⊥) → (Rose before.out.put_faults after.out.put_faults → ⊥)
     → (status ≡ 0) ⊎ (status ≡ 6)
 
@@ -127,14 +156,15 @@ CompileCompletes r before after status = (held : Held) (text : List ℕ) (p : Pr
 pub record CompilePromises (r : CompileRequest) (before after : Outside) (status : ℕ) : Type 0 where
   pub ends : Compiles r before after status
   pub done : status ≡ 0 → CompileDone r before after
-  pub one : status ≡ 1 → SourceRefuses HasFirstForm r.source before after
-  pub told : SourceTells HasFirstForm r.source before after status
+  pub one : status ≡ 1 → CompileRefuses r before after
+  pub told : SourceTells r.source before after status
+  pub built : BuildTells r before after status
   pub three : SourceMisses r.source before status
   pub files : BothTold before.files after.files (OthersAsBefore r)
   pub complete : CompileCompletes r before after status
 
--- The bytes of HEX and MAP and the line that `compile` makes for the program that a counter stands for: firmware for it that
--- reacts in time, the second the text of a map, and the summary of that map.
-abbrev pub AreTexts : Counter → List ℕ → List ℕ → List ℕ → Type 0
-AreTexts c hex text line =
-    (m : Map) × (text ≡ map_text m) × IsFirmware (program_of c) hex (map_text m) × IsScheduled (program_of c) hex (map_text m) × (line ≡ summary m (program_of c))
+-- The bytes of HEX and MAP and the line that `compile` makes for a program that is built: firmware for it that reacts in time,
+-- the second the text of a map, and the summary of that map.
+abbrev pub AreTexts : ProgramTree → List ℕ → List ℕ → List ℕ → Type 0
+AreTexts p hex text line =
+    (m : Map) × (text ≡ map_text m) × IsFirmware p hex (map_text m) × IsScheduled p hex (map_text m) × (line ≡ summary m p) × IsBuildable p

@@ -1,6 +1,5 @@
 pub mod Checks
 pub mod Compiles
-pub mod CounterParts
 pub mod Endings
 pub mod Lines
 pub mod Models

@@ -10,6 +10,8 @@ use Rattle.efrp_syntax.specs.declared.faults.SyntaxFault.TheVariants.{BadByte, T
 use Rattle.frp_tree.specs.Names.{type_name}
 use Rattle.efrp_types.specs.declared.faults.CheckFault.{CheckFault}
 use Rattle.efrp_types.specs.declared.faults.CheckFault.TheVariants as check
+use Rattle.firmware.specs.declared.faults.BuildFault.{BuildFault}
+use Rattle.firmware.specs.declared.faults.BuildFault.TheVariants as build
 use Rattle.efrp_meaning.specs.Bounds.{words_bound, ram_bound, settle_bound}
 
 -- What is put where the words form no command.
@@ -77,9 +79,14 @@ unknown_line n = named_line (codes "refused: events ") (decimal n)
 abbrev pub many_events_line : List ℕ
 many_events_line = codes "refused: events many\n"
 
--- The line of a text that spells a program of another form.
-abbrev pub form_line : List ℕ
-form_line = codes "refused: form\n"
+-- The line of a program of which nothing is built: it has an input or a table; or so many levels, bytes of RAM or words. Out of
+-- memory has none.
+abbrev pub build_line : BuildFault → List ℕ
+build_line build.Form = codes "refused: form\n"
+build_line (build.Stack n) = named_line (codes "refused: stack ") (decimal n)
+build_line (build.Ram n) = named_line (codes "refused: ram ") (decimal n)
+build_line (build.Code n) = named_line (codes "refused: code ") (decimal n)
+build_line build.Memory = []
 
 -- A number and its bound.
 abbrev pub bounded : List ℕ → ℕ → ℕ → List ℕ

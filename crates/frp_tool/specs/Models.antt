@@ -15,7 +15,7 @@ use Rattle.frp_tool.specs.Lines.{unknown_line, many_events_line}
 use Rattle.frp_tool.specs.Outsides.{Outside}
 use Rattle.frp_tool.specs.Endings.{Ends, DueOrYielded, Gives}
 use Rattle.frp_tool.specs.Reads.{Unread, unread_status, unread_line, IsInput, IsUnread, IsLong, IsNext}
-use Rattle.frp_tool.specs.SourceTexts.{AnyProgram, IsRefused, refusal_line}
+use Rattle.frp_tool.specs.SourceTexts.{IsRefused, refusal_line}
 
 -- The names that `model` is given.
 pub record ModelRequest : Type 0 where
@@ -57,7 +57,7 @@ model_fault_line TooMany = many_events_line
 -- The first fault of bytes that were read: the source is tested first.
 abbrev pub IsFirstModelFault : ModelTexts → ModelFault → Type 0
 IsFirstModelFault t (FileUnread name why) = ⊥
-IsFirstModelFault t (Refused reading) = IsRead t.source reading × IsRefused AnyProgram reading
+IsFirstModelFault t (Refused reading) = IsRead t.source reading × IsRefused reading
 IsFirstModelFault t (Unknown n) = (p : ProgramTree) × IsRead t.source (Passing p) × (first_unknown p t.events ≡ Some n)
 IsFirstModelFault t TooMany = (p : ProgramTree) × IsRead t.source (Passing p) × AreTooMany p t.events
 

@@ -1,30 +1,26 @@
--- What a command finds in the source: a program that it takes, or why there is none.
-use Rattle.std.specs.Prelude.{◌≡◌, ℕ, ◌<◌, ◌≤◌, List, length, Some, None, ◌⊎◌}
+-- What a command finds in the source: a program that passes the checks, or why there is none.
+use Rattle.std.specs.Prelude.{◌≡◌, ℕ, ◌<◌, ◌≤◌, List, [], length, Some, None, ◌⊎◌}
 use Rattle.edge_io.specs.declared.outside.TheConstants.{LONGEST_FILE}
 use Rattle.edge_io.specs.Files.{Held, FilesSeen, IfTold}
 use Rattle.edge_io.specs.Sinks.{Appends}
 use Rattle.edge_io.specs.Counts.{Rose}
 use Rattle.frp_tree.specs.Tree.{ProgramTree}
 use Rattle.checked_source.specs.Readings.{Reading, Passing, Faulty, Misused, Cyclic, Reads, IsRead}
-use Rattle.frp_tool.specs.Lines.{syntax_line, check_line, cycle_line, form_line}
+use Rattle.frp_tool.specs.Lines.{syntax_line, check_line, cycle_line}
 use Rattle.frp_tool.specs.Outsides.{Outside}
 use Rattle.frp_tool.specs.Endings.{Ends, DueOrYielded}
 use Rattle.frp_tool.specs.Reads.{Unread, unread_status, unread_line, IsUnread}
 
--- Which of the programs that pass the checks a command takes: some do with all.
-abbrev pub AnyProgram : ProgramTree → Type 0
-AnyProgram p = Unit {0}
+-- A reading is a fault, and so gives no program.
+abbrev pub IsRefused : Reading → Type 0
+IsRefused (Passing p) = ⊥
+IsRefused (Faulty fault) = Unit {0}
+IsRefused (Misused fault) = Unit {0}
+IsRefused (Cyclic event name) = Unit {0}
 
--- A reading gives a command no program: it is a fault, or a program that the command doesn't take.
-abbrev pub IsRefused : (ProgramTree → Type 0) → Reading → Type 0
-IsRefused Takes (Passing p) = Takes p → ⊥
-IsRefused Takes (Faulty fault) = Unit {0}
-IsRefused Takes (Misused fault) = Unit {0}
-IsRefused Takes (Cyclic event name) = Unit {0}
-
--- The line of a text that gives no program.
+-- The line of a fault. A program has none.
 abbrev pub refusal_line : Reading → List ℕ
-refusal_line (Passing p) = form_line
+refusal_line (Passing p) = []
 refusal_line (Faulty fault) = syntax_line fault
 refusal_line (Misused fault) = check_line fault
 refusal_line (Cyclic event name) = cycle_line event name
@@ -33,9 +29,9 @@ refusal_line (Cyclic event name) = cycle_line event name
 abbrev pub OfSource : List ℕ → FilesSeen → (List ℕ → Type 0) → Type 0
 OfSource source before P = IfTold before (λ held. (text : List ℕ) × (held source ≡ Some text) × P text)
 
--- The command takes the program, and it is what the source is read as.
-abbrev pub SourceGives : (ProgramTree → Type 0) → List ℕ → FilesSeen → ProgramTree → Type 0
-SourceGives Takes source before p = Takes p × OfSource source before (λ text. IsRead text (Passing p))
+-- The source is read as this program, where files are told.
+abbrev pub SourceGives : List ℕ → FilesSeen → ProgramTree → Type 0
+SourceGives source before p = OfSource source before (λ text. IsRead text (Passing p))
 
 -- Why a source gives no program: it wasn't read; or what its text is read as.
 pub data SourceFault : Type 0 where
@@ -51,22 +47,22 @@ source_line source (SourceUnread why) = unread_line source why
 source_line source (Refused reading) = refusal_line reading
 
 -- Why a fault comes.
-abbrev pub SourceCause : (ProgramTree → Type 0) → List ℕ → FilesSeen → FilesSeen → SourceFault → Type 0
-SourceCause Takes source before after (SourceUnread why) = IsUnread source before after why
-SourceCause Takes source before after (Refused reading) = OfSource source before (λ text. (length text ≤ LONGEST_FILE) × IsRead text reading) × IsRefused Takes reading
+abbrev pub SourceCause : List ℕ → FilesSeen → FilesSeen → SourceFault → Type 0
+SourceCause source before after (SourceUnread why) = IsUnread source before after why
+SourceCause source before after (Refused reading) = OfSource source before (λ text. (length text ≤ LONGEST_FILE) × IsRead text reading) × IsRefused reading
 
 -- What a status says of the source of a command that reads nothing else. 1 comes only where the source is too long, or is read
--- as no program that the command takes, where files are told. In the second case the line was put that says why.
-abbrev pub SourceRefuses : (ProgramTree → Type 0) → List ℕ → Outside → Outside → Type 0
-SourceRefuses Takes source before after =
+-- as no program, where files are told. In the second case the line was put that says why.
+abbrev pub SourceRefuses : List ℕ → Outside → Outside → Type 0
+SourceRefuses source before after =
     OfSource source before.files (λ text. LONGEST_FILE < length text)
-    ⊎ ((reading : Reading) × OfSource source before.files (λ text. IsRead text reading) × IsRefused Takes reading × Appends before.out.taken after.out.taken (refusal_line reading))
+    ⊎ ((reading : Reading) × OfSource source before.files (λ text. IsRead text reading) × IsRefused reading × Appends before.out.taken after.out.taken (refusal_line reading))
 
--- Where files are told, the source is short enough to be read, it is read as no program that the command takes, and no read
--- fault is counted: the status is 1 and the line is put that says why, or it is 5 or 6.
-abbrev pub SourceTells : (ProgramTree → Type 0) → List ℕ → Outside → Outside → ℕ → Type 0
-SourceTells Takes source before after status = (held : Held) (text : List ℕ) (reading : Reading) → before.files.told ≡ Some held → held source ≡ Some text → length text ≤ LONGEST_FILE
-    → Reads text reading → IsRefused Takes reading → (Rose before.files.read_faults after.files.read_faults → ⊥)
+-- Where files are told, the source is short enough to be read, it is read as no program, and no read fault is counted: the
+-- status is 1 and the line is put that says why, or it is 5 or 6.
+abbrev pub SourceTells : List ℕ → Outside → Outside → ℕ → Type 0
+SourceTells source before after status = (held : Held) (text : List ℕ) (reading : Reading) → before.files.told ≡ Some held → held source ≡ Some text → length text ≤ LONGEST_FILE
+    → Reads text reading → IsRefused reading → (Rose before.files.read_faults after.files.read_faults → ⊥)
     → Ends before.out after.out 1 (refusal_line reading) status
 
 -- 3 comes exactly where the source isn't held, where files are told.

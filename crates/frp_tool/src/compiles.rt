@@ -1,18 +1,23 @@
 // The command `compile`.
 ghost use Rattle.std.specs.Prelude.{◌≡◌, ◌≢◌, ◌++◌, IfOk, OnOk, string_bytes, codes};
 ghost use Rattle.std.specs.Fmt.{decimal};
-ghost use Rattle.counter_code.specs.Counters.{IsCounter};
+ghost use Rattle.frp_tree.specs.Tree.{program_tree_of};
+ghost use Rattle.firmware.specs.Builds.{IsBuildFault, IsBuilt};
+ghost use Rattle.frp_tool.specs.Endings.{Gives};
 ghost use Rattle.frp_tool.specs.Compiles.{AreTexts, CompileWorks};
-ghost use Rattle.frp_tool.specs.Lines.{summary_of};
+ghost use Rattle.frp_tool.specs.Lines.{build_line, summary_of};
 
+use crate::fault_lines::build_line;
 use crate::halts::Halt;
-use crate::source::read_counter;
+use crate::says::REFUSED;
+use crate::source::read_source;
 use crate::writes::store;
-use counter_code::Counter;
+use causality::Checked;
 use edge_io::Files;
-use firmware::{Limits, limits_of};
+use firmware::Built;
 use frp_tree::{List as Bytes, Text};
 use map_file::Map;
+use program_bounds::{Bounds, bounds_of};
 use std::alloc::{AllocError, Global};
 use std::fmt::Write;
 
@@ -34,38 +39,42 @@ fn add_bounded(text: &mut String, words: &str, number: u32, most: u32) -> Result
     write!(text, "{words}{number} of {most}")
 }
 
-fn summary_line(alloc: Global, map: &Map, limits: Limits) -> Result<String, AllocError>
-    ensures { IfOk result (λ line. string_bytes line ≡ summary_of map.now limits.words limits.ram limits.settle) }
+fn summary_line(alloc: Global, map: &Map, bounds: Bounds) -> Result<String, AllocError>
+    ensures { IfOk result (λ line. string_bytes line ≡ summary_of map.now bounds.words bounds.ram bounds.settle) }
 {
     let mut text = String::new(alloc);
-    add_bounded(
-        &mut text,
-        "words ",
-        u32::from(map.words),
-        u32::from(limits.words),
-    )?;
-    add_bounded(
-        &mut text,
-        " ram ",
-        u32::from(map.ram),
-        u32::from(limits.ram),
-    )?;
+    add_bounded(&mut text, "words ", u32::from(map.words), bounds.words)?;
+    add_bounded(&mut text, " ram ", u32::from(map.ram), bounds.ram)?;
     add_bounded(&mut text, " depth ", u32::from(map.depth), MOST_LEVELS)?;
-    add_bounded(&mut text, " settle ", map.settle, limits.settle)?;
+    add_bounded(&mut text, " settle ", map.settle, bounds.settle)?;
     text.push_str("\n")?;
     Ok(text)
 }
 
-fn texts_of(alloc: Global, counter: &Counter) -> Result<Texts, AllocError>
-    requires { IsCounter counter.now }
-    ensures { IfOk result (λ texts. AreTexts counter.now texts.hex texts.map (string_bytes texts.summary)) }
+// The bytes of both files and the summary, from what was built of a program.
+fn texts_of(alloc: Global, c: &Checked, built: &Built) -> Result<Texts, AllocError>
+    requires { IsBuilt (program_tree_of c.now.typed.program) built.now }
+    ensures { IfOk result (λ texts. AreTexts (program_tree_of c.now.typed.program) texts.hex texts.map (string_bytes texts.summary)) }
 {
-    let built = firmware::compile(alloc, counter)?;
+    let bounds = bounds_of(alloc, c)?;
     Ok(Texts {
         hex: hex_file::write(alloc, &built.image)?,
         map: map_file::write(alloc, &built.map)?,
-        summary: summary_line(alloc, &built.map, limits_of(counter))?,
+        summary: summary_line(alloc, &built.map, bounds)?,
     })
+}
+
+// What is made of a program, or why nothing is built of it.
+fn texts_in(alloc: Global, c: &Checked) -> Result<Texts, Halt>
+    ensures { Gives (λ texts. AreTexts (program_tree_of c.now.typed.program) texts.hex texts.map (string_bytes texts.summary)) (IsBuildFault (program_tree_of c.now.typed.program)) (λ fault. 1) build_line result }
+{
+    match firmware::compile(alloc, c) {
+        Ok(built) => Ok(texts_of(alloc, c, &built)?),
+        Err(fault) => Err(Halt::Said {
+            status: REFUSED,
+            line: build_line(alloc, fault)?,
+        }),
+    }
 }
 
 /// The work of `compile SRC HEX MAP`: reads SRC, writes HEX and MAP, and gives the summary of the map.
@@ -79,8 +88,8 @@ pub fn compile<F: Files>(
     requires { hex.now ≢ map.now }
     ensures { CompileWorks (record { source = source.now; hex = hex.now; map = map.now }) (F.seen files.old) (F.seen files.new) result }
 {
-    let counter = read_counter(alloc, source, files)?;
-    let texts = texts_of(alloc, &counter)?;
+    let checked = read_source(alloc, source, files)?;
+    let texts = texts_in(alloc, &checked)?;
     store(alloc, hex, texts.hex.as_slice(), files)?;
     store(alloc, map, texts.map.as_slice(), files)?;
     Ok(Some(texts.summary))

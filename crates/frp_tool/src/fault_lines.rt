@@ -1,6 +1,6 @@
 // The lines of faults, as they are put.
 ghost use Rattle.std.specs.Prelude.{◌≡◌, ◌≢◌, IfOk, string_bytes};
-ghost use Rattle.frp_tool.specs.Lines.{kind_word, syntax_line, two_names_line, check_line, cycle_line};
+ghost use Rattle.frp_tool.specs.Lines.{build_line, kind_word, syntax_line, two_names_line, check_line, cycle_line};
 ghost use Rattle.frp_tool.specs.RunLines.{
   hex_line_at,
   hex_line,
@@ -15,6 +15,7 @@ use crate::says::line_with_name;
 use arrival_script::Cause;
 use efrp_syntax::{Kind, SyntaxFault};
 use efrp_types::CheckFault;
+use firmware::BuildFault;
 use frp_tree::{Text, Ty};
 use hex_file::HexFault;
 use pic_machine::Why;
@@ -210,4 +211,17 @@ pub fn stop_line(alloc: Global, step: u32, address: u16, why: Why) -> Result<Str
 {
     let word = why_word(why);
     format!(in alloc; "refused: stop {step} {address:04X} {word}\n")
+}
+
+/// The line of a program of which nothing is built. Where memory ran out, which has no line, there is an `Err` too.
+pub fn build_line(alloc: Global, fault: BuildFault) -> Result<String, AllocError>
+    ensures { IfOk result (λ line. (fault ≢ BuildFault.Memory) × (string_bytes line ≡ build_line fault)) }
+{
+    match fault {
+        BuildFault::Form => String::from_str(alloc, "refused: form\n"),
+        BuildFault::Stack(levels) => format!(in alloc; "refused: stack {levels}\n"),
+        BuildFault::Ram(bytes) => format!(in alloc; "refused: ram {bytes}\n"),
+        BuildFault::Code(words) => format!(in alloc; "refused: code {words}\n"),
+        BuildFault::Memory => Err(AllocError),
+    }
 }

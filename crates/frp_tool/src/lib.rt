@@ -1,16 +1,14 @@
 //! The tool: what each command reads, writes and puts, and the status that it ends with.
 //!
 //! Contracts see the words of a command, the files before and after, the bytes that were put and the counts of
-//! faults. The program `efrp` is a thin `main` over the one public call. So far it has the commands `check`, `compile`, for
-//! programs of the first form, `run` and `model`. A command is a case of `Request`, a file of `specs/` that says what is promised
-//! of it, and a function that does its work; `finish` puts its last line and makes its status.
+//! faults. The program `efrp` is a thin `main` over the one public call. So far it has the commands `check`, `compile`, `run`
+//! and `model`. A command is a case of `Request`, a file of `specs/` that says what is promised of it, and a function that does
+//! its work; `finish` puts its last line and makes its status.
 #![tactic(auto)]
 
 mod checks;
 mod compiles;
-mod counter_parts;
 mod fault_lines;
-mod first_form;
 mod halts;
 mod inputs;
 mod models;

@@ -1,27 +1,24 @@
 // The program that a source spells.
 ghost use Rattle.std.specs.Prelude.{◌≤◌};
 ghost use Rattle.frp_tree.specs.Tree.{program_tree_of};
-ghost use Rattle.counter_code.specs.Counters.{HasFirstForm, IsCounter, program_of};
 ghost use Rattle.checked_source.specs.Readings.{IsRead, Passing};
 ghost use Rattle.edge_io.specs.Files.{KeepsFiles};
 ghost use Rattle.frp_tool.specs.Endings.{Gives};
-ghost use Rattle.frp_tool.specs.SourceTexts.{AnyProgram, IsRefused, SourceCause, SourceGives, refusal_line, source_line, source_status};
+ghost use Rattle.frp_tool.specs.SourceTexts.{IsRefused, SourceCause, SourceGives, refusal_line, source_line, source_status};
 
 use crate::fault_lines::{check_line, cycle_line, syntax_line};
-use crate::first_form::first_form;
 use crate::halts::Halt;
 use crate::reads::input;
 use crate::says::REFUSED;
 use causality::Checked;
 use checked_source::{SourceFault, read};
-use counter_code::Counter;
 use edge_io::Files;
 use frp_tree::Text;
 use std::alloc::Global;
 
 /// The program that a text spells, where it passes the checks, or what the text is read as.
 pub fn program_in(alloc: Global, text: &[u8]) -> Result<Checked, Halt>
-    ensures { Gives (λ checked. IsRead text.now (Passing (program_tree_of checked.typed.program))) (λ reading. IsRead text.now reading × IsRefused AnyProgram reading) (λ reading. 1) refusal_line result }
+    ensures { Gives (λ checked. IsRead text.now (Passing (program_tree_of checked.typed.program))) (λ reading. IsRead text.now reading × IsRefused reading) (λ reading. 1) refusal_line result }
 {
     match read(alloc, text) {
         Ok(checked) => Ok(checked),
@@ -41,36 +38,13 @@ pub fn program_in(alloc: Global, text: &[u8]) -> Result<Checked, Halt>
     }
 }
 
-// The counter whose program a text spells, or what the text is read as.
-fn counter(alloc: Global, text: &[u8]) -> Result<Counter, Halt>
-    ensures { Gives (λ c. IsCounter c × IsRead text.now (Passing (program_of c))) (λ reading. IsRead text.now reading × IsRefused HasFirstForm reading) (λ reading. 1) refusal_line result }
-{
-    let checked = program_in(alloc, text)?;
-    match first_form(alloc, checked.typed().program())? {
-        Some(counter) => Ok(counter),
-        None => Err(Halt::Said {
-            status: REFUSED,
-            line: String::from_str(alloc, "refused: form\n")?,
-        }),
-    }
-}
-
 /// The program that the source of this name spells, where it passes the checks, or why there is none.
 pub fn read_source<F: Files>(alloc: Global, source: &Text, files: &mut F) -> Result<Checked, Halt>
-    ensures gives { Gives (λ checked. SourceGives AnyProgram source.now (F.seen files.old) (program_tree_of checked.typed.program)) (SourceCause AnyProgram source.now (F.seen files.old) (F.seen files.new)) source_status (source_line source.now) result }
-    ensures unchanged { KeepsFiles (F.seen files.old) (F.seen files.new) }
-{
-    let text = input(alloc, source, files)?;
-    program_in(alloc, text.as_slice())
-}
-
-/// The counter whose program the source of this name spells, or why there is none.
-pub fn read_counter<F: Files>(alloc: Global, source: &Text, files: &mut F) -> Result<Counter, Halt>
-    ensures gives { Gives (λ c. IsCounter c × SourceGives HasFirstForm source.now (F.seen files.old) (program_of c)) (SourceCause HasFirstForm source.now (F.seen files.old) (F.seen files.new)) source_status (source_line source.now) result }
+    ensures gives { Gives (λ checked. SourceGives source.now (F.seen files.old) (program_tree_of checked.typed.program)) (SourceCause source.now (F.seen files.old) (F.seen files.new)) source_status (source_line source.now) result }
     ensures unchanged { KeepsFiles (F.seen files.old) (F.seen files.new) }
     ensures read_count { (F.seen files.old).read_faults ≤ (F.seen files.new).read_faults }
     ensures write_count { (F.seen files.old).write_faults ≤ (F.seen files.new).write_faults }
 {
     let text = input(alloc, source, files)?;
-    counter(alloc, text.as_slice())
+    program_in(alloc, text.as_slice())
 }

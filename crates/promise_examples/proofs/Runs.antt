@@ -1,4 +1,7 @@
 -- The code of counters, run on the defined chip and counted as the promises count.
+pub mod CounterCode
+pub mod CounterMaps
+pub mod Counters
 pub mod Counting
 pub mod Late
 pub mod Merged

@@ -13,11 +13,9 @@ use Rattle.pic_machine.specs.Run.{Log, run}
 use Rattle.hex_file.specs.declared.images.Image.{Image}
 use Rattle.map_file.specs.declared.maps.MapEvent.{MapEvent}
 use Rattle.map_file.specs.declared.maps.Map.{Map}
-use Rattle.counter_code.specs.declared.counters.Counter.{Counter}
-use Rattle.counter_code.specs.declared.counters.SetupAt.{SetupAt}
-use Rattle.counter_code.specs.Counters.{program_of}
-use Rattle.counter_code.specs.Layout.{image_of}
-use Rattle.counter_code.specs.Maps.{map_of}
+use Rattle.promise_examples.proofs.Runs.Counters.{Counter, SetupAt, program_of}
+use Rattle.promise_examples.proofs.Runs.CounterCode.{image_of}
+use Rattle.promise_examples.proofs.Runs.CounterMaps.{map_of}
 use Rattle.firmware_promises.specs.MapNames.{is_listed}
 use Rattle.firmware_promises.specs.Counts.{chip_after}
 

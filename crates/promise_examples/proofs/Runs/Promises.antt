@@ -4,7 +4,7 @@ use Rattle.std.proofs.Common.{◌≡◌, refl, sym, ◌∙◌, inl, inr, arith}
 use Rattle.pic_regs.specs.Map.{canonical}
 use Rattle.map_file.specs.declared.maps.Range.{Range}
 use Rattle.map_file.specs.MapRules.{IsMap}
-use Rattle.counter_code.specs.Maps as maps
+use Rattle.promise_examples.proofs.Runs.CounterMaps as maps
 use Rattle.firmware_promises.specs.Counts.{count, latched_count, cleared_count, commit_count, flag_after}
 use Rattle.firmware_promises.specs.MapNames.{is_listed}
 use Rattle.firmware_promises.specs.Firmware.{Names, Reports, count_below, may_be_written, is_at}

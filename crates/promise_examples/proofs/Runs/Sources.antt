@@ -6,11 +6,9 @@ use Rattle.efrp_meaning.proofs.Examples.Programs.{tick}
 use Rattle.pic_isa.specs.declared.sources.Source.{Source}
 use Rattle.pic_isa.specs.declared.sources.Source.TheVariants.{T0, Int, Tmr2, Tmr1, Ccp2}
 use Rattle.pic_machine.specs.Run.{Log, run}
-use Rattle.counter_code.specs.declared.counters.Counter.{Counter}
-use Rattle.counter_code.specs.declared.counters.SetupAt.{SetupAt}
-use Rattle.counter_code.specs.Counters.{program_of}
-use Rattle.counter_code.specs.Layout.{image_of}
-use Rattle.counter_code.specs.Maps.{map_of}
+use Rattle.promise_examples.proofs.Runs.Counters.{Counter, SetupAt, program_of}
+use Rattle.promise_examples.proofs.Runs.CounterCode.{image_of}
+use Rattle.promise_examples.proofs.Runs.CounterMaps.{map_of}
 use Rattle.firmware_promises.specs.Counts.{commits, port_writes, reactions, chip_after}
 use Rattle.pic_regs.specs.Registers.{byte_at}
 use Rattle.firmware_promises.specs.MapNames.{states_in}

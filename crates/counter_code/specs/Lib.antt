@@ -1,3 +1,0 @@
-pub mod Counters
-pub mod Layout
-pub mod Maps
