@@ -4,7 +4,7 @@ use crate::calls::{Call, Found, SOURCE, ends, parts_of};
 use crate::compile_tests::compile;
 
 // A check of this source that puts this line.
-fn check<'a>(source: Option<&'a [u8]>, put: &'a str) -> Call<'a> {
+pub(crate) fn check<'a>(source: Option<&'a [u8]>, put: &'a str) -> Call<'a> {
     Call {
         words: &["check", SOURCE],
         ..compile(source, put)

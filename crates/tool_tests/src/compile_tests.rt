@@ -1,7 +1,8 @@
 // Calls of `compile`: what they put and leave, where a file or the sink fails, and words that form no command.
 
-use crate::calls::{Call, Ended, Found, HEX, MAP, SOURCE, ends, made};
+use crate::calls::{Call, Ended, Found, HEX, MAP, SOURCE, ends, made, parts_of};
 use std::alloc::{AllocError, Global};
+use std::fmt::Write;
 
 /// A counter of one event.
 const COUNTER: &str = "event Tick = INT priority 1;
@@ -40,9 +41,12 @@ const SUMMARY: &str = "words 16 of 308 ram 1 of 11 depth 1 of 8 settle 586 of 58
 const USAGE: &str =
     "usage: efrp check SRC / compile SRC HEX MAP / run HEX MAP SCRIPT / model SRC EVENTS / big N HEX MAP";
 
-/// A program with two definitions, one of them with `later`.
-const TWO_DEFINITIONS: &str =
-    "event Tick = INT priority 1; let a : u8 = init 5 in { Tick => a + 1 later; }; let b : u8 = init 0 in { Tick => a; }; output PORTB = a;";
+/// Programs that pass and of which nothing is built, each with the line that is told of it. The first fault comes first.
+const UNBUILT: &str = "\
+let k : u8 = input PORTA; output PORTB = k; | refused: form
+let t : u8 = table { 1, 2 }; | refused: form
+event A = T0 priority 1; event B = INT priority 2; event C = PSP priority 3; event D = AD priority 4; event E = SSP priority 5; event F = CCP1 priority 6; event G = TMR2 priority 7; event H = TMR1 priority 8; event I = EE priority 9; | refused: stack 9
+event A = T0 priority 11; event B = INT priority 2; event C = PSP priority 3; event D = AD priority 4; event E = SSP priority 5; event F = CCP1 priority 6; event G = TMR2 priority 7; event H = TMR1 priority 8; event I = EE priority 9; let k : u8 = input PORTA; | refused: form";
 
 // A compile of this source that puts this.
 pub(crate) fn compile<'a>(source: Option<&'a [u8]>, put: &'a str) -> Call<'a> {
@@ -76,10 +80,37 @@ fn compiles_a_counter(rt: HostRuntime) {
     }
 }
 
+fn is_unbuilt(rt: &(impl AllocGlobal + Print), source: &str, put: &str) -> bool {
+    let call = compile(Some(source.as_bytes()), put);
+    ends(rt, &call, (1, Found::Absent, Found::Absent))
+}
+
 #[test]
-fn refuses_what_is_no_counter(rt: HostRuntime) {
-    let call = compile(Some(TWO_DEFINITIONS.as_bytes()), "refused: form");
-    assert!(rt; ends(&rt, &call, (1, Found::Absent, Found::Absent)));
+fn tells_why_nothing_is_built(rt: HostRuntime) {
+    for row in UNBUILT.lines() {
+        let (source, put) = parts_of(row);
+        assert!(rt; is_unbuilt(&rt, source, put), "{row}");
+    }
+}
+
+// A program of one event that needs 353 bytes of RAM by its bound: 174 for its states, 6 for its level and 173 for results.
+fn of_353_bytes(alloc: Global) -> Result<String, AllocError> {
+    let mut text = String::from_str(alloc, "event Tick = INT priority 1;")?;
+    for n in 0..86u32 {
+        write!(text, "let n{n} : u16 = init 0w in {{ Tick => 1w; }};")?;
+    }
+    text.push_str("let y : u8 = init 0 in { Tick => 1; };let z : u8 = init 0 in { };")?;
+    Ok(text)
+}
+
+#[test]
+fn keeps_the_limit_on_ram(rt: HostRuntime) {
+    let text = made(&rt, || of_353_bytes(rt.alloc()));
+    let told = match text {
+        Some(source) => is_unbuilt(&rt, source.as_str(), "refused: ram 353"),
+        None => false,
+    };
+    assert!(rt; told);
 }
 
 #[test]

@@ -1,6 +1,7 @@
-// Sources that are refused: where a text breaks off, each limit, and programs of other forms.
+// What is told of sources: where a text breaks off, and each limit.
 
-use crate::calls::{Found, ends, made, parts_of};
+use crate::calls::{Call, Found, ends, made, parts_of};
+use crate::check_tests::check;
 use crate::compile_tests::compile;
 use std::alloc::{AllocError, Global};
 
@@ -56,62 +57,63 @@ pub(crate) fn in_full(alloc: Global, short: Short<'_>) -> Result<String, AllocEr
     Ok(text)
 }
 
-// Whether a compile of this source is refused with this line.
-fn is_refused(rt: &(impl AllocGlobal + Print), source: &[u8], put: &str) -> bool {
-    ends(
-        rt,
-        &compile(Some(source), put),
-        (1, Found::Absent, Found::Absent),
-    )
+fn ends_with(rt: &(impl AllocGlobal + Print), call: &Call<'_>, status: u8) -> bool {
+    ends(rt, call, (status, Found::Absent, Found::Absent))
 }
 
-fn short_is_refused(rt: &(impl AllocGlobal + Print), short: Short<'_>, put: &str) -> bool {
+// Whether a check tells this of the source; and a compile too, where it is a refusal.
+fn is_told(rt: &(impl AllocGlobal + Print), source: &[u8], put: &str) -> bool {
+    if put.starts_with("ok ") {
+        return ends_with(rt, &check(Some(source), put), 0);
+    }
+    ends_with(rt, &check(Some(source), put), 1) && ends_with(rt, &compile(Some(source), put), 1)
+}
+
+fn short_is_told(rt: &(impl AllocGlobal + Print), short: Short<'_>, put: &str) -> bool {
     match made(rt, || in_full(rt.alloc(), short)) {
-        Some(text) => is_refused(rt, text.as_bytes(), put),
+        Some(text) => is_told(rt, text.as_bytes(), put),
         None => false,
     }
 }
 
 /// Sources, each with the line that is told of it.
-const REFUSED: &str = "\
+const TOLD: &str = "\
 event @ | refused: byte 6
 event Tick TMR1 | refused: unexpected 2
 event Tick = INT | refused: unexpected 4
 event abcdefghijklmnopqrstuvwxyz012345 = INT priority 1; | refused: big 6
 let n : u8 = 1 ) ; | refused: unexpected 6
-| refused: form
-// nothing | refused: form
-event Go = T0 priority 2; let x : u8 = init 1 in { Go => y + 1 later; }; let y : u8 = init 2 in { Go => x + x; }; | refused: form";
+// nothing | ok events 0 definitions 0 outputs 0";
 
 #[test]
 fn tells_why_a_source_is_refused(rt: HostRuntime) {
-    for row in REFUSED.lines() {
+    for row in TOLD.lines() {
         let (source, put) = parts_of(row);
-        assert!(rt; is_refused(&rt, source.as_bytes(), put), "{row}");
+        assert!(rt; is_told(&rt, source.as_bytes(), put), "{row}");
     }
 }
 
 /// Parts of sources at a limit and past it, each with the line that is told of it.
 const LIMITS: &str = "\
-` `65536` | refused: form
+` `65536` | ok events 0 definitions 0 outputs 0
 ` `65537` | refused: big 65536
-let abcdefghijklmnopqrstuvwxyz01234 : u8 = 1; | refused: form
+let abcdefghijklmnopqrstuvwxyz01234 : u8 = 1; | ok events 0 definitions 1 outputs 0
 let abcdefghijklmnopqrstuvwxyz012345 : u8 = 1; | refused: big 4
-let n : u16 = 65535w; | refused: form
+let n : u16 = 65535w; | ok events 0 definitions 1 outputs 0
 let n : u16 = 65536w; | refused: big 14
 `event A = INT priority 1;`11` | refused: twice A
 `event A = INT priority 1;`12` | refused: many events
-`setup TRISB = 0;`32` | refused: form
+`setup TRISB = 0;`32` | ok events 0 definitions 0 outputs 0
 `setup TRISB = 0;`33` | refused: many setups
 `let n : u8 = 1;`128` | refused: twice n
 `let n : u8 = 1;`129` | refused: many definitions
 `output PORTB = 1;`5` | refused: output twice PORTB
 `output PORTB = 1;`6` | refused: many outputs
-let n : u8 = ~1` + 1`2047`; | refused: form
+let n : u8 = ~1` + 1`2047`; | ok events 0 definitions 1 outputs 0
 let n : u8 = ~~1` + 1`2047`; | refused: many nodes
-let t : u8 = table { 0`, 0`255` }; | refused: form
+let t : u8 = table { 0`, 0`255` }; | ok events 0 definitions 1 outputs 0
 let t : u8 = table { 0`, 0`256` }; | refused: many entries
-let n : u8 = `(`64`1`)`64`; | refused: form
+let n : u8 = `(`64`1`)`64`; | ok events 0 definitions 1 outputs 0
 let n : u8 = `(`65`1`)`65`; | refused: deep 69";
 
 #[test]
@@ -123,7 +125,7 @@ fn keeps_each_limit(rt: HostRuntime) {
             times: 1,
             rest: "",
         };
-        assert!(rt; short_is_refused(&rt, short, put), "{row}");
+        assert!(rt; short_is_told(&rt, short, put), "{row}");
     }
 }
 
@@ -138,15 +140,21 @@ fn keeps_the_limit_on_entries_of_all_tables(rt: HostRuntime) {
             times: 8,
             rest,
         };
-        assert!(rt; short_is_refused(&rt, short, put), "{put}");
+        assert!(rt; short_is_told(&rt, short, put), "{put}");
     }
 }
 
-/// The tokens of a counter, each with a blank behind it, and how many stand before each of its items.
+/// The tokens of a counter, each with a blank behind it.
 const TOKENS: &str =
     "event Tick = INT priority 1 ; setup TRISB = 0 ; let n : u8 = init 0 in { Tick => n + 1 ; } ; output PORTB = n ; ";
 
-const ITEMS: &[usize] = &[0, 7, 12, 29];
+/// How many of them stand before each item, and what is told of the items before it.
+const ITEMS: &[(usize, &str)] = &[
+    (0, "ok events 0 definitions 0 outputs 0"),
+    (7, "ok events 1 definitions 0 outputs 0"),
+    (12, "ok events 1 definitions 0 outputs 0"),
+    (29, "ok events 1 definitions 1 outputs 0"),
+];
 
 // The text of so many tokens, and what is told of it.
 fn cut(alloc: Global, count: usize) -> Result<(Vec<u8>, String), AllocError> {
@@ -154,17 +162,16 @@ fn cut(alloc: Global, count: usize) -> Result<(Vec<u8>, String), AllocError> {
     for token in TOKENS.split_inclusive(' ').take(count) {
         text.extend_from_slice(token.as_bytes())?;
     }
-    let put = if ITEMS.contains(&count) {
-        format!(in alloc; "refused: form")?
-    } else {
-        format!(in alloc; "refused: unexpected {count}")?
+    let put = match ITEMS.iter().find(|(before, _)| *before == count) {
+        Some((_, counts)) => String::from_str(alloc, counts)?,
+        None => format!(in alloc; "refused: unexpected {count}")?,
     };
     Ok((text, put))
 }
 
-fn cut_is_refused(rt: &(impl AllocGlobal + Print), count: usize) -> bool {
+fn cut_is_told(rt: &(impl AllocGlobal + Print), count: usize) -> bool {
     match made(rt, || cut(rt.alloc(), count)) {
-        Some((text, put)) => is_refused(rt, text.as_slice(), put.as_str()),
+        Some((text, put)) => is_told(rt, text.as_slice(), put.as_str()),
         None => false,
     }
 }
@@ -172,7 +179,7 @@ fn cut_is_refused(rt: &(impl AllocGlobal + Print), count: usize) -> bool {
 #[test]
 fn tells_where_a_counter_was_cut(rt: HostRuntime) {
     for count in 0..34 {
-        assert!(rt; cut_is_refused(&rt, count), "{count}");
+        assert!(rt; cut_is_told(&rt, count), "{count}");
     }
     assert_eq!(rt; TOKENS.split_inclusive(' ').count(), 34);
 }
