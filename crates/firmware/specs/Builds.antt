@@ -3,8 +3,6 @@ use Rattle.std.specs.Prelude.{◌≡◌, ℕ, ◌<◌, ◌≤◌, List, [], filt
 use Rattle.frp_tree.specs.Tree.{DeclTree, ProgramTree}
 use Rattle.efrp_meaning.specs.Bounds.{levels, ram_bound, words_bound}
 use Rattle.efrp_meaning.specs.Decls.{inputs_of, is_table}
-use Rattle.bank_alloc.specs.declared.needs.RamFault.{RamFault}
-use Rattle.bank_alloc.specs.declared.needs.RamFault.TheVariants as ram
 use Rattle.hex_file.specs.Written.{IsWritable, written}
 use Rattle.map_file.specs.MapRules.{IsMap}
 use Rattle.map_file.specs.MapText.{map_text}
@@ -45,7 +43,3 @@ IsBuildFault p (Stack n) = HasCode p × (n ≡ levels p) × (8 < n)
 IsBuildFault p (Ram n) = HasCode p × (levels p ≤ 8) × (n ≡ ram_bound p) × (352 < n)
 IsBuildFault p (Code n) = IsBuildable p × (8192 < n) × (n ≤ words_bound p)
 IsBuildFault p Memory = ⊥
-
--- A fault of places, as one of a program.
-abbrev pub IsOfRam : RamFault → BuildFault → Type 0
-IsOfRam (ram.Ram bytes) fault = fault ≡ Ram bytes

@@ -1,22 +1,24 @@
 // The compiler: the image and the map of a program.
 
-ghost use Rattle.std.specs.Prelude.{◌≡◌, ◌<◌, ◌≤◌, ◌⊎◌, ¬◌, IfErr, IfOk, Err};
+ghost use Rattle.std.specs.Prelude.{◌≡◌, ◌<◌, ◌≤◌, ◌⊎◌, IfErr, IfOk, Err};
 ghost use Rattle.frp_tree.specs.Tree.{program_tree_of};
 ghost use Rattle.efrp_meaning.specs.Bounds.{levels, ram_bound};
-ghost use Rattle.bank_alloc.specs.Needs.{bytes_of};
 ghost use Rattle.priority_masks.specs.Levels.{AreLevelsOf};
+ghost use Rattle.program_bounds.specs.Bounded.{AreBounds};
 ghost use Rattle.firmware.specs.declared.faults.BuildFault.TheVariants.{Form, Memory, Ram, Stack};
 ghost use Rattle.firmware.specs.Builds.{HasCode, IsBuildFault, IsBuilt};
 
 use crate::faults::BuildFault;
 use crate::kinds::has_code;
-use bank_alloc::{Needs, Places, place};
 use causality::Checked;
 use hex_file::Image;
 use map_file::Map;
-use priority_masks::Levels;
-use program_bounds::bounds_of;
+use priority_masks::{Levels, TooDeep};
+use program_bounds::{Bounds, bounds_of};
 use std::alloc::Global;
+
+/// The banked general bytes of the chip's RAM (data sheet DS30292, "Register File Map").
+const MOST_BYTES: u32 = 352;
 
 /// An image and its map.
 #[derive(Debug, Drop)]
@@ -25,19 +27,27 @@ pub struct Built {
     pub map: Map,
 }
 
-// The places of the bytes that a program with these levels needs. The faults are of RAM and of memory.
-fn places_of(alloc: Global, c: &Checked, levels: &Levels) -> Result<Places, BuildFault>
-    requires { AreLevelsOf (program_tree_of c.now.typed.program) levels.now }
-    ensures ok { IfOk result (λ (places : _). ram_bound (program_tree_of c.now.typed.program) ≤ 352) }
+// The levels of a program, where the chip's return stack has room for them.
+fn levels_of(c: &Checked) -> Result<Levels, BuildFault>
+    ensures ok { IfOk result (λ l. AreLevelsOf (program_tree_of c.now.typed.program) l × (levels (program_tree_of c.now.typed.program) ≤ 8)) }
+    ensures err { IfErr result (λ fault. (fault ≡ Stack (levels (program_tree_of c.now.typed.program))) × (8 < levels (program_tree_of c.now.typed.program))) }
+{
+    match Levels::new(c) {
+        Ok(levels) => Ok(levels),
+        Err(TooDeep(count)) => Err(BuildFault::Stack(u32::from(count))),
+    }
+}
+
+// The bounds of a program, where the chip has so much RAM.
+fn bounds_in_ram(alloc: Global, c: &Checked) -> Result<Bounds, BuildFault>
+    ensures ok { IfOk result (λ bounds. AreBounds (program_tree_of c.now.typed.program) bounds × (ram_bound (program_tree_of c.now.typed.program) ≤ 352)) }
     ensures err { IfErr result (λ fault. (fault ≡ Memory) ⊎ ((fault ≡ Ram (ram_bound (program_tree_of c.now.typed.program))) × (352 < ram_bound (program_tree_of c.now.typed.program)))) }
 {
     let bounds = bounds_of(alloc, c)?;
-    let places = place(&Needs {
-        states: bounds.states,
-        levels: levels.count(),
-        scratch: bounds.scratch,
-    })?;
-    Ok(places)
+    if bounds.ram > MOST_BYTES {
+        return Err(BuildFault::Ram(bounds.ram));
+    }
+    Ok(bounds)
 }
 
 /// The firmware of a program that passes the checks, or why there is none. `Form` comes exactly where it has an input or a table,
@@ -53,10 +63,10 @@ pub fn compile(alloc: Global, c: &Checked) -> Result<Built, BuildFault>
     ensures form { ¬ HasCode (program_tree_of c.now.typed.program) → result ≡ Err Form }
     ensures stack { HasCode (program_tree_of c.now.typed.program) → 8 < levels (program_tree_of c.now.typed.program) → result ≡ Err (Stack (levels (program_tree_of c.now.typed.program))) }
 {
-    if !has_code(c.typed().program()) {
+    if !has_code(c) {
         return Err(BuildFault::Form);
     }
-    let levels = Levels::new(c)?;
-    let _places = places_of(alloc, c, &levels)?;
+    let _levels = levels_of(c)?;
+    let _bounds = bounds_in_ram(alloc, c)?;
     Err(BuildFault::Memory)
 }

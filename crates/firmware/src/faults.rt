@@ -1,7 +1,5 @@
 // Why nothing is built of a program.
 
-use bank_alloc::RamFault;
-use priority_masks::TooDeep;
 use std::alloc::AllocError;
 
 /// Why nothing is built of a program. They are tested in this order.
@@ -27,28 +25,5 @@ impl From<AllocError> for BuildFault {
 
     fn from(_error: AllocError) -> BuildFault {
         BuildFault::Memory
-    }
-}
-
-impl From<TooDeep> for BuildFault {
-    ghost use Rattle.std.specs.Prelude.{◌≡◌};
-    ghost use Rattle.firmware.specs.declared.faults.BuildFault.TheVariants.{Stack};
-
-    ghost from_gives = { λ many fault. fault ≡ Stack many.0 };
-
-    fn from(many: TooDeep) -> BuildFault {
-        BuildFault::Stack(u32::from(many.0))
-    }
-}
-
-impl From<RamFault> for BuildFault {
-    ghost use Rattle.firmware.specs.Builds.{IsOfRam};
-
-    ghost from_gives = { IsOfRam };
-
-    fn from(fault: RamFault) -> BuildFault {
-        match fault {
-            RamFault::Ram(bytes) => BuildFault::Ram(bytes),
-        }
     }
 }

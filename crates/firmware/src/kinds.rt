@@ -7,7 +7,8 @@ ghost use Rattle.frp_tree.specs.Tree.{behaviour_of, program_tree_of};
 ghost use Rattle.firmware.specs.Builds.{HasCode};
 ghost use Rattle.firmware.specs.Kinds.{is_coded};
 
-use frp_tree::{Behaviour, Decl, Program};
+use causality::Checked;
+use frp_tree::{Behaviour, Decl};
 
 fn is_coded(behaviour: &Behaviour) -> bool
     ensures { result ≡ is_coded (behaviour_of behaviour.now) }
@@ -29,8 +30,8 @@ fn are_coded(decls: &[Decl]) -> bool
 }
 
 /// Whether the program has no input and no table. Takes no memory.
-pub(crate) fn has_code(program: &Program) -> bool
-    ensures { IsTrue result ↔ HasCode (program_tree_of program.now) }
+pub(crate) fn has_code(c: &Checked) -> bool
+    ensures { IsTrue result ↔ HasCode (program_tree_of c.now.typed.program) }
 {
-    are_coded(program.decls.as_slice())
+    are_coded(c.typed().program().decls.as_slice())
 }
