@@ -6,5 +6,4 @@ use Rattle.frp_tool.proofs.compiles.texts_in.Goals as goal
 pub returns-in-Err : goal.returns-in-Err
 returns-in-Err c =
     let line = c.in_ok-build_line-in-Err.ensures in
-    let why = rw c.in-Err.is at c.compile.ensures.err in
-    (c.in-Err.fault, is_fault (program_tree_of c.args.c.now.typed.program) c.in-Err.fault line.0 why, refl, line.1)
+    (c.in-Err.fault, is_fault (program_tree_of c.args.c.now.typed.program) c.in-Err.fault line.0 c.in-Err.ensures.err, refl, line.1)
