@@ -1,5 +1,5 @@
 -- What is built of a program, and of which programs nothing is.
-use Rattle.std.specs.Prelude.{◌≡◌, ℕ, ◌<◌, ◌≤◌, List, [], filter}
+use Rattle.std.specs.Prelude.{◌≡◌, ◌<◌, ◌≤◌, List, [], filter}
 use Rattle.frp_tree.specs.Tree.{DeclTree, ProgramTree}
 use Rattle.efrp_meaning.specs.Bounds.{levels, ram_bound, words_bound}
 use Rattle.efrp_meaning.specs.Decls.{inputs_of, is_table}
