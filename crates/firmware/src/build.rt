@@ -5,6 +5,7 @@ ghost use Rattle.frp_tree.specs.Tree.{program_tree_of};
 ghost use Rattle.efrp_meaning.specs.Bounds.{levels, ram_bound};
 ghost use Rattle.priority_masks.specs.Levels.{AreLevelsOf};
 ghost use Rattle.program_bounds.specs.Bounded.{AreBounds};
+ghost use Rattle.firmware_map.specs.Laws.{HasNames};
 ghost use Rattle.firmware.specs.declared.faults.BuildFault.TheVariants.{Form, Memory, Ram, Stack};
 ghost use Rattle.firmware.specs.Builds.{HasCode, IsBuildFault, IsBuilt};
 
@@ -50,11 +51,13 @@ fn bounds_in_ram(alloc: Global, c: &Checked) -> Result<Bounds, BuildFault>
     Ok(bounds)
 }
 
-/// The firmware of a program that passes the checks, or why there is none. `Form` comes exactly where it has an input or a table,
+/// The firmware of a program that passes the checks and whose events and definitions have names, as those of a text have; or why
+/// there is none. `Form` comes exactly where it has an input or a table,
 /// and `Stack(n)` exactly where all others have n distinct priorities, more than 8; neither takes memory. `Ram(n)` comes only where
 /// the bound on its bytes of general RAM is n, more than 352, and `Code(n)` only where it is past its bound of 8,192 words.
 /// `Memory` is out of memory.
 pub fn compile(alloc: Global, c: &Checked) -> Result<Built, BuildFault>
+    requires names { HasNames (program_tree_of c.now.typed.program) }
     // The image and the map can be written, and their bytes are firmware for the program.
     ensures ok { IfOk result (IsBuilt (program_tree_of c.now.typed.program)) }
     // A fault is the program's, or memory ran out.
