@@ -9,11 +9,12 @@ use Rattle.frp_tree.specs.Grammar.{Spells}
 use Rattle.efrp_types.specs.Passes.{Passes}
 use Rattle.checked_source.specs.Readings.{Reading, Reads}
 use Rattle.frp_tool.specs.Outsides.{Outside}
+use Rattle.frp_tool.specs.Reads.{TooLong, unread_line}
 use Rattle.frp_tool.specs.Endings.{Ends, DueOrYielded}
-use Rattle.frp_tool.specs.SourceTexts.{IsRefused, refusal_line, SourceRefuses, SourceTells}
+use Rattle.frp_tool.specs.SourceTexts.{IsRefused, refusal_line, SourceRefuses, SourceTellsLong, SourceTells}
 use Rattle.frp_tool.specs.Checks.{CheckVerdict, Bad, Good, check_status, check_text, CheckCause, Checks, CheckDone, CheckCompletes, CheckPromises}
-use Rattle.frp_tool.proofs.EndingFacts.{line_due, line_settled}
-use Rattle.frp_tool.proofs.SourceLaws.{not_source, source_one, source_three, source_four, not_held, not_held_due, refusal_due, refused_gives, no_source_fault}
+use Rattle.frp_tool.proofs.EndingFacts.{ends_as, line_due, line_settled}
+use Rattle.frp_tool.proofs.SourceLaws.{not_source, source_one, source_three, source_four, not_held, not_held_due, long_due, long_gives, refusal_due, refused_gives, no_source_fault}
 
 module _ (source : List ℕ) (before after : Outside) (status : ℕ) where
   -- A verdict that comes, with its status and its line.
@@ -63,7 +64,12 @@ module _ (source : List ℕ) (before after : Outside) (status : ℕ) where
     not_held_is_due none (Bad fault) cause ends = subst (λ (n : ℕ). DueOrYielded n status) (not_held_due source before after held told fault none cause) ends
     not_held_is_due none (Good p) cause ends = absurd (not_held source before after held told _ none cause)
 
-    -- Where a text is held that is refused, and no read fault was counted, that is the verdict.
+    -- Where a text is held that is too long, or is refused, and no read fault was counted, that is the verdict.
+    long_is_due : (text : List ℕ) → held source ≡ Some text → LONGEST_FILE < length text → (Rose before.files.read_faults after.files.read_faults → ⊥)
+        → (v : CheckVerdict) → CheckCause source before.files after.files v → (check_status v ≡ 1) × (check_text source v ≡ unread_line source TooLong)
+    long_is_due text is long unread (Bad fault) cause = long_due source before after held told text is long unread fault cause
+    long_is_due text is long unread (Good p) cause = absurd (long_gives source before after held told text p is long cause)
+
     refusal_is_due : (text : List ℕ) (reading : Reading) → held source ≡ Some text → length text ≤ LONGEST_FILE → Reads text reading → IsRefused reading
         → (Rose before.files.read_faults after.files.read_faults → ⊥) → (v : CheckVerdict) → CheckCause source before.files after.files v → (check_status v ≡ 1) × (check_text source v ≡ refusal_line reading)
     refusal_is_due text reading is small reads unfit unread (Bad fault) cause = refusal_due source before after held told text reading is small reads unread fault cause
@@ -79,11 +85,14 @@ module _ (source : List ℕ) (before after : Outside) (status : ℕ) where
   three_when (keeps, inl h) held told none = inr (inr h.0)
   three_when (keeps, inr (v, cause, ends)) held told none = not_held_is_due held told none v cause (line_due _ _ _ _ _ ends)
 
+  tells_long : Checks source before after status → SourceTellsLong source before after status
+  tells_long (keeps, inl h) held text told is long unread = inr (inr h)
+  tells_long (keeps, inr (v, cause, ends)) held text told is long unread = ends_as _ _ _ _ _ _ status (long_is_due held told text is long unread v cause) ends
+
   tells : Checks source before after status → SourceTells source before after status
   tells (keeps, inl h) held text reading told is small reads unfit unread = inr (inr h)
   tells (keeps, inr (v, cause, ends)) held text reading told is small reads unfit unread =
-      let due = refusal_is_due held told text reading is small reads unfit unread v cause in
-      subst (λ (line : List ℕ). Ends before.out after.out 1 line status) due.1 (subst (λ (n : ℕ). Ends before.out after.out n (check_text source v) status) due.0 ends)
+      ends_as _ _ _ _ _ _ status (refusal_is_due held told text reading is small reads unfit unread v cause) ends
 
   by_end : (v : CheckVerdict) → check_status v ≡ 0 → (Rose before.out.put_faults after.out.put_faults → ⊥) → Ends before.out after.out (check_status v) (check_text source v) status → (status ≡ 0) ⊎ (status ≡ 6)
   by_end v zero puts (inl g) = inl (g.0 ∙ zero)
@@ -99,6 +108,7 @@ module _ (source : List ℕ) (before after : Outside) (status : ℕ) where
     ends = h;
     done = λ e. let v = verdict h (omega (arith, e)) in done_by v.0 v.1 e;
     one = λ e. let v = verdict h (omega (arith, e)) in one_only v.0 v.1 e;
+    long = tells_long h;
     told = tells h;
     three = ((λ e. let v = verdict h (omega (arith, e)) in three_only v.0 v.1 e), three_when h);
     files = h.0;

@@ -13,13 +13,14 @@ use Rattle.firmware.specs.declared.faults.BuildFault.{BuildFault}
 use Rattle.firmware.specs.declared.faults.BuildFault.TheVariants.{Form, Stack, Ram, Code, Memory}
 use Rattle.checked_source.specs.Readings.{Reading, Reads}
 use Rattle.frp_tool.specs.Outsides.{Outside}
+use Rattle.frp_tool.specs.Reads.{TooLong, unread_line}
 use Rattle.frp_tool.specs.Endings.{Ends, DueOrYielded}
-use Rattle.frp_tool.specs.SourceTexts.{IsRefused, refusal_line, SourceTells}
+use Rattle.frp_tool.specs.SourceTexts.{IsRefused, refusal_line, SourceTellsLong, SourceTells}
 use Rattle.frp_tool.specs.Compiles.{CompileRequest, CompileVerdict, IsCompiled, NoProgram, Unbuilt, HexFailed, MapFailed, Done, compile_status, compile_line, CompileCause, CompileLeft, CompileCut, OthersAsBefore, Compiles, CompileDone, CompileRefuses, BuildTells, CompileCompletes, CompilePromises}
 use Rattle.frp_tool.proofs.ToldFacts.{both_map}
-use Rattle.frp_tool.proofs.EndingFacts.{line_due, line_settled}
+use Rattle.frp_tool.proofs.EndingFacts.{ends_as, line_due, line_settled}
 use Rattle.frp_tool.specs.Lines.{build_line}
-use Rattle.frp_tool.proofs.SourceLaws.{not_source, source_one, source_three, source_four, not_held, not_held_due, refusal_due, refused_gives, given_is, no_source_fault}
+use Rattle.frp_tool.proofs.SourceLaws.{not_source, source_one, source_three, source_four, not_held, not_held_due, long_due, long_gives, refusal_due, refused_gives, given_is, no_source_fault}
 
 -- A program that has code and fits the chip has no fault.
 no_build_fault : (p : ProgramTree) → HasCode p → Fits p → (fault : BuildFault) → IsBuildFault p fault → ⊥
@@ -177,7 +178,15 @@ module _ (r : CompileRequest) (before after : Outside) (status : ℕ) where
   fault_is_due held text p fault told is spells passes has sure unread (MapFailed f) cause = absurd (not_buildable p fault has sure (built_is held text p f.program told is spells passes cause.0))
   fault_is_due held text p fault told is spells passes has sure unread (Done f) cause = absurd (not_buildable p fault has sure (built_is held text p f.program told is spells passes cause))
 
-  -- Where a text is held that is refused, and no read fault was counted, that is the verdict.
+  -- Where a text is held that is too long, or is refused, and no read fault was counted, that is the verdict.
+  long_is_due : (held : Held) (text : List ℕ) → before.files.told ≡ Some held → held r.source ≡ Some text → LONGEST_FILE < length text
+      → (Rose before.files.read_faults after.files.read_faults → ⊥) → (v : CompileVerdict) → CompileCause r before.files after.files v → (compile_status v ≡ 1) × (compile_line r v ≡ unread_line r.source TooLong)
+  long_is_due held text told is long unread (NoProgram fault) cause = long_due r.source before after held told text is long unread fault cause
+  long_is_due held text told is long unread (Unbuilt p fault) cause = absurd (long_gives r.source before after held told text p is long cause.0)
+  long_is_due held text told is long unread (HexFailed p) cause = absurd (long_gives r.source before after held told text p is long cause.0.0)
+  long_is_due held text told is long unread (MapFailed f) cause = absurd (long_gives r.source before after held told text f.program is long cause.0.0)
+  long_is_due held text told is long unread (Done f) cause = absurd (long_gives r.source before after held told text f.program is long cause.0)
+
   refusal_is_due : (held : Held) (text : List ℕ) (reading : Reading) → before.files.told ≡ Some held → held r.source ≡ Some text → length text ≤ LONGEST_FILE → Reads text reading → IsRefused reading
       → (Rose before.files.read_faults after.files.read_faults → ⊥) → (v : CompileVerdict) → CompileCause r before.files after.files v → (compile_status v ≡ 1) × (compile_line r v ≡ refusal_line reading)
   refusal_is_due held text reading told is small reads unfit unread (NoProgram fault) cause = refusal_due r.source before after held told text reading is small reads unread fault cause
@@ -186,17 +195,19 @@ module _ (r : CompileRequest) (before after : Outside) (status : ℕ) where
   refusal_is_due held text reading told is small reads unfit unread (MapFailed f) cause = absurd (refused_gives r.source before after held told text reading f.program is reads unfit cause.0.0)
   refusal_is_due held text reading told is small reads unfit unread (Done f) cause = absurd (refused_gives r.source before after held told text reading f.program is reads unfit cause.0)
 
+  -- Where each verdict that can come has status 1 and this line, the call ends so.
+  ends_with : (line : List ℕ) → Compiles r before after status → ((v : CompileVerdict) → CompileCause r before.files after.files v → (compile_status v ≡ 1) × (compile_line r v ≡ line)) → Ends before.out after.out 1 line status
+  ends_with line (inl h) due = inr (inr (h.0, h.1))
+  ends_with line (inr (v, cause, left, ends)) due = ends_as _ _ _ _ _ _ status (due v cause) ends
+
+  tells_long : Compiles r before after status → SourceTellsLong r.source before after status
+  tells_long h held text told is long unread = ends_with (unread_line r.source TooLong) h (long_is_due held text told is long unread)
+
   tells : Compiles r before after status → SourceTells r.source before after status
-  tells (inl h) held text reading told is small reads unfit unread = inr (inr (h.0, h.1))
-  tells (inr (v, cause, left, ends)) held text reading told is small reads unfit unread =
-      let due = refusal_is_due held text reading told is small reads unfit unread v cause in
-      subst (λ (line : List ℕ). Ends before.out after.out 1 line status) due.1 (subst (λ (n : ℕ). Ends before.out after.out n (compile_line r v) status) due.0 ends)
+  tells h held text reading told is small reads unfit unread = ends_with (refusal_line reading) h (refusal_is_due held text reading told is small reads unfit unread)
 
   built_tells : Compiles r before after status → BuildTells r before after status
-  built_tells (inl h) held text p fault told is spells passes has sure unread = inr (inr (h.0, h.1))
-  built_tells (inr (v, cause, left, ends)) held text p fault told is spells passes has sure unread =
-      let due = fault_is_due held text p fault told is spells passes has sure unread v cause in
-      subst (λ (line : List ℕ). Ends before.out after.out 1 line status) due.1 (subst (λ (n : ℕ). Ends before.out after.out n (compile_line r v) status) due.0 ends)
+  built_tells h held text p fault told is spells passes has sure unread = ends_with (build_line fault) h (fault_is_due held text p fault told is spells passes has sure unread)
 
   by_end : (v : CompileVerdict) → compile_status v ≡ 0 → (Rose before.out.put_faults after.out.put_faults → ⊥) → Ends before.out after.out (compile_status v) (compile_line r v) status → (status ≡ 0) ⊎ (status ≡ 6)
   by_end v zero puts (inl g) = inl (g.0 ∙ zero)
@@ -212,6 +223,7 @@ module _ (r : CompileRequest) (before after : Outside) (status : ℕ) where
     ends = h;
     done = λ e. let v = verdict h (omega (arith, e)) in done_by v.0 v.1 e;
     one = λ e. let v = verdict h (omega (arith, e)) in one_only v.0 v.1 e;
+    long = tells_long h;
     told = tells h;
     built = built_tells h;
     three = ((λ e. let v = verdict h (omega (arith, e)) in three_only v.0 v.1 e), three_when h);

@@ -12,6 +12,7 @@ pub mod RunLaws
 pub mod RunStepFacts
 pub mod SerialTextFacts
 pub mod SourceLaws
+pub mod SourceNameFacts
 pub mod SourceStepFacts
 pub mod SummaryFacts
 pub mod ToldFacts

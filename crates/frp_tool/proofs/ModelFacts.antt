@@ -1,7 +1,6 @@
 -- The steps of `model`, put together.
-use Rattle.std.proofs.Common.{◌≡◌, ℕ, ◌≤◌, List, [], ◌∷◌, map, Option, Some, None, Result, Ok, Err, String, string_bytes, inl, inr, refl, ap, ◌∙◌, subst}
+use Rattle.std.proofs.Common.{◌≡◌, ℕ, ◌≤◌, List, [], ◌∷◌, map, Option, Some, Result, Ok, Err, String, string_bytes, inl, inr, refl, ap, ◌∙◌, subst}
 use Rattle.std.specs.declared.alloc.Global.{Global}
-use Rattle.std.specs.List.{AllByRecursion}
 use Rattle.edge_io.specs.Files.{FilesSeen, KeepsFiles}
 use Rattle.edge_io.specs.Sinks.{SinkSeen}
 use Rattle.frp_tree.specs.Tree.{ProgramTree}
@@ -10,14 +9,14 @@ use Rattle.checked_source.specs.Readings.{Reading, Passing, IsRead}
 use Rattle.event_file.specs.declared.occurrences.Occurrence.{Occurrence as Found}
 use Rattle.event_file.specs.declared.occurrences.EventsFault.{EventsFault}
 use Rattle.event_file.specs.Model.{model_text}
-use Rattle.event_file.specs.Reads.{IsFound, occurrence_of, ReadsEvents}
+use Rattle.event_file.specs.Reads.{occurrence_of, ReadsEvents}
 use Rattle.frp_tool.specs.declared.halts.Halt.{Halt}
 use Rattle.frp_tool.specs.declared.halts.Halt.TheVariants.{Said, PutFailed, Memory}
 use Rattle.frp_tool.specs.Outsides.{Outside}
 use Rattle.frp_tool.specs.Endings.{Ends, Gives, Finishes}
 use Rattle.frp_tool.specs.Reads.{unread_status, unread_line, IsUnread, IsInput}
 use Rattle.frp_tool.specs.SourceTexts.{IsRefused, refusal_line}
-use Rattle.frp_tool.specs.Models.{ModelRequest, ModelTexts, AreModelTexts, ModelFault, FileUnread, Refused, Unknown, TooMany, model_fault_status, model_fault_line, IsFirstModelFault, ModelFaultCause, IsModel, ModelVerdict, NoModel, Modelled, ModelWorks, Models}
+use Rattle.frp_tool.specs.Models.{ModelRequest, ModelTexts, AreModelTexts, ModelFault, FileUnread, Refused, Unknown, TooMany, model_fault_status, model_fault_line, IsFirstModelFault, ModelFaultCause, IsModel, NoModel, Modelled, ModelWorks, Models}
 use Rattle.frp_tool.proofs.RunStepFacts.{halts, first_unread, second_unread}
 
 -- The first or the second file wasn't read.

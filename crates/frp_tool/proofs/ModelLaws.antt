@@ -1,19 +1,19 @@
 -- What each status of a `model` says, from how its call ends.
-use Rattle.std.proofs.Common.{◌≡◌, ℕ, ◌<◌, ◌≤◌, List, [], ◌∷◌, ◌++◌, Some, None, length, ◌⊎◌, inl, inr, ⊎_elim, arith, refl, ap, sym, ◌∙◌, subst}
+use Rattle.std.proofs.Common.{◌≡◌, ℕ, ◌<◌, ◌≤◌, List, Some, None, length, ◌⊎◌, inl, inr, ⊎_elim, arith, refl, ap, sym, ◌∙◌, subst}
 use Rattle.std.specs.List.{AllByRecursion}
 use Rattle.edge_io.specs.Files.{Held, FilesSeen, IfTold}
 use Rattle.edge_io.specs.Sinks.{Appends}
 use Rattle.edge_io.specs.Counts.{Rose}
 use Rattle.frp_tree.specs.Tree.{ProgramTree}
-use Rattle.checked_source.specs.Readings.{Reading, Passing, Reads, IsRead}
+use Rattle.checked_source.specs.Readings.{Passing, Reads, IsRead}
 use Rattle.event_file.specs.Events.{first_unknown, told_events}
 use Rattle.frp_tool.specs.Outsides.{Outside}
 use Rattle.frp_tool.specs.Endings.{Ends, DueOrYielded}
 use Rattle.frp_tool.specs.Reads.{Unread, NotHeld, NotRead, TooLong, IsReadable, IsLong, IsNext}
 use Rattle.frp_tool.specs.SourceTexts.{refusal_line}
-use Rattle.frp_tool.specs.Models.{ModelRequest, names_of, ModelTexts, AreModelTexts, ModelFault, FileUnread, Refused, Unknown, TooMany, model_fault_status, model_fault_line, IsFirstModelFault, ModelVerdict, NoModel, Modelled, model_status, model_put, ModelCause, Models, ModelDone, ModelRefuses, ModelTells, ModelMisses, ModelCompletes, ModelPromises}
+use Rattle.frp_tool.specs.Models.{ModelRequest, names_of, ModelTexts, AreModelTexts, ModelFault, FileUnread, Refused, Unknown, TooMany, model_fault_status, model_fault_line, IsFirstModelFault, ModelVerdict, NoModel, Modelled, model_status, model_put, ModelCause, Models, ModelDone, ModelRefuses, ModelTells, ModelCompletes, ModelPromises}
 use Rattle.frp_tool.proofs.ToldFacts.{if_both, at_told}
-use Rattle.frp_tool.proofs.EndingFacts.{line_due, line_settled}
+use Rattle.frp_tool.proofs.EndingFacts.{ends_as, line_due, line_settled}
 use Rattle.frp_tool.proofs.NextFacts.{IsHeldInput, named, one_next, not_readable, long_readable, not_long}
 use Rattle.frp_tool.proofs.SourceLaws.{fits}
 
@@ -199,9 +199,7 @@ module _ (r : ModelRequest) (before after : Outside) (status : ℕ) where
 
   tells : Models r before after status → ModelTells r before after status
   tells (keeps, inl h) held t fault told are first unread = inr (inr h)
-  tells (keeps, inr (v, cause, ends)) held t fault told are first unread =
-      let due = fault_due held told unread t are fault first v cause in
-      subst (λ (line : List ℕ). Ends before.out after.out 1 line status) due.1 (subst (λ (n : ℕ). Ends before.out after.out n (model_put v) status) due.0 ends)
+  tells (keeps, inr (v, cause, ends)) held t fault told are first unread = ends_as _ _ _ _ _ _ status (fault_due held told unread t are fault first v cause) ends
 
   by_end : (v : ModelVerdict) → model_status v ≡ 0 → (Rose before.out.put_faults after.out.put_faults → ⊥) → Ends before.out after.out (model_status v) (model_put v) status → (status ≡ 0) ⊎ (status ≡ 6)
   by_end v zero puts (inl g) = inl (g.0 ∙ zero)

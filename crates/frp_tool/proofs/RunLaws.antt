@@ -1,7 +1,6 @@
 -- What each status of a `run` says, from how its call ends.
-use Rattle.std.proofs.Common.{◌≡◌, ℕ, ◌<◌, ◌≤◌, List, [], ◌∷◌, ◌++◌, Some, None, length, ◌⊎◌, inl, inr, ⊎_elim, arith, refl, sym, ◌∙◌, subst}
+use Rattle.std.proofs.Common.{◌≡◌, ℕ, ◌<◌, List, [], ◌∷◌, Some, None, ◌⊎◌, inl, inr, ⊎_elim, arith, refl, sym, ◌∙◌, subst}
 use Rattle.std.specs.List.{AllByRecursion}
-use Rattle.edge_io.specs.declared.outside.TheConstants.{LONGEST_FILE}
 use Rattle.edge_io.specs.Files.{Held, FilesSeen, IfTold}
 use Rattle.edge_io.specs.Sinks.{SinkSeen, Appends}
 use Rattle.edge_io.specs.Counts.{Rose}

@@ -9,7 +9,7 @@ use Rattle.frp_tree.specs.Grammar.{Spells}
 use Rattle.efrp_types.specs.Passes.{Passes}
 use Rattle.checked_source.specs.Readings.{Reading, Passing, Reads, IsRead}
 use Rattle.frp_tool.specs.Outsides.{Outside}
-use Rattle.frp_tool.specs.Reads.{NotHeld, NotRead, TooLong}
+use Rattle.frp_tool.specs.Reads.{NotHeld, NotRead, TooLong, unread_line}
 use Rattle.frp_tool.specs.SourceTexts.{IsRefused, refusal_line, OfSource, SourceGives, SourceFault, SourceUnread, Refused, source_status, source_line, SourceCause, SourceRefuses}
 use Rattle.frp_tool.proofs.ToldFacts.{if_map, at_told}
 
@@ -41,7 +41,7 @@ module _ (source : List ℕ) (before after : Outside) where
   pub source_one : (fault : SourceFault) → SourceCause source before.files after.files fault → source_status fault ≡ 1 → Appends before.out.taken after.out.taken (source_line source fault) → SourceRefuses source before after
   source_one (SourceUnread NotHeld) cause e put = absurd (omega (arith, e))
   source_one (SourceUnread NotRead) cause e put = absurd (omega (arith, e))
-  source_one (SourceUnread TooLong) cause e put = inl cause
+  source_one (SourceUnread TooLong) cause e put = inl (cause, put)
   source_one (Refused reading) cause e put = inr (reading, if_map before.files _ _ (λ held at. (at.0, at.1, at.2.1)) cause.0, cause.1, put)
 
   pub source_three : (fault : SourceFault) → SourceCause source before.files after.files fault → source_status fault ≡ 3 → IfTold before.files (λ held. held source ≡ None)
@@ -78,6 +78,17 @@ module _ (source : List ℕ) (before after : Outside) where
     not_held_due (SourceUnread NotRead) none cause = absurd (not_held _ none cause.1)
     not_held_due (SourceUnread TooLong) none cause = absurd (not_held _ none cause)
     not_held_due (Refused reading) none cause = absurd (not_held _ none cause.0)
+
+    -- Where a text is held that is too long, and no read fault was counted, that is the fault; and it gives no program.
+    pub long_due : (text : List ℕ) → held source ≡ Some text → LONGEST_FILE < length text → (Rose before.files.read_faults after.files.read_faults → ⊥)
+        → (fault : SourceFault) → SourceCause source before.files after.files fault → (source_status fault ≡ 1) × (source_line source fault ≡ unread_line source TooLong)
+    long_due text is long unread (SourceUnread NotHeld) cause = absurd (missing text is cause)
+    long_due text is long unread (SourceUnread NotRead) cause = absurd (unread cause.0)
+    long_due text is long unread (SourceUnread TooLong) cause = (refl, refl)
+    long_due text is long unread (Refused other) cause = let at = of_held text _ is cause.0 in absurd (omega (arith, long, at.0))
+
+    pub long_gives : (text : List ℕ) (p : ProgramTree) → held source ≡ Some text → LONGEST_FILE < length text → SourceGives source before.files p → ⊥
+    long_gives text p is long gives = let read = of_held text _ is gives in short text p read.0.0 long
 
     -- Where a text is held that is refused, and no read fault was counted, that is the fault; and none gives a program.
     pub refusal_due : (text : List ℕ) (reading : Reading) → held source ≡ Some text → length text ≤ LONGEST_FILE → Reads text reading → (Rose before.files.read_faults after.files.read_faults → ⊥)

@@ -11,7 +11,7 @@ use Rattle.frp_tool.specs.declared.halts.Halt.{Halt}
 use Rattle.frp_tool.specs.Lines.{counts_line}
 use Rattle.frp_tool.specs.Outsides.{Outside}
 use Rattle.frp_tool.specs.Endings.{Ends, Gives}
-use Rattle.frp_tool.specs.SourceTexts.{SourceGives, SourceFault, source_status, source_line, SourceCause, SourceRefuses, SourceTells, SourceMisses}
+use Rattle.frp_tool.specs.SourceTexts.{SourceGives, SourceFault, source_status, source_line, SourceCause, SourceRefuses, SourceTellsLong, SourceTells, SourceMisses}
 
 -- What a `check` comes to: the source gives no program, or a program that passes.
 pub data CheckVerdict : Type 0 where
@@ -61,6 +61,7 @@ pub record CheckPromises (source : List ℕ) (before after : Outside) (status : 
   pub ends : Checks source before after status
   pub done : status ≡ 0 → CheckDone source before after
   pub one : status ≡ 1 → SourceRefuses source before after
+  pub long : SourceTellsLong source before after status
   pub told : SourceTells source before after status
   pub three : SourceMisses source before status
   pub files : KeepsFiles before.files after.files

@@ -20,7 +20,7 @@ use Rattle.frp_tool.specs.declared.halts.Halt.TheVariants as halt
 use Rattle.frp_tool.specs.Lines.{named_line, build_line, summary}
 use Rattle.frp_tool.specs.Outsides.{Outside}
 use Rattle.frp_tool.specs.Endings.{Ends}
-use Rattle.frp_tool.specs.SourceTexts.{SourceGives, SourceFault, source_status, source_line, SourceCause, SourceRefuses, SourceTells, SourceMisses}
+use Rattle.frp_tool.specs.SourceTexts.{SourceGives, SourceFault, source_status, source_line, SourceCause, SourceRefuses, SourceTellsLong, SourceTells, SourceMisses}
 use Rattle.frp_tool.specs.Writes.{Has, SameButTwo}
 
 -- The names that `compile` is given.
@@ -157,6 +157,7 @@ pub record CompilePromises (r : CompileRequest) (before after : Outside) (status
   pub ends : Compiles r before after status
   pub done : status ≡ 0 → CompileDone r before after
   pub one : status ≡ 1 → CompileRefuses r before after
+  pub long : SourceTellsLong r.source before after status
   pub told : SourceTells r.source before after status
   pub built : BuildTells r before after status
   pub three : SourceMisses r.source before status

@@ -1,5 +1,5 @@
 -- What is promised of `model SRC EVENTS`.
-use Rattle.std.specs.Prelude.{◌≡◌, ℕ, ◌≤◌, List, [], ◌∷◌, length, Option, Some, None, Result, Ok, Err, String, string_bytes, ◌⊎◌}
+use Rattle.std.specs.Prelude.{◌≡◌, ℕ, ◌≤◌, List, [], ◌∷◌, length, Option, Some, None, Result, String, string_bytes, ◌⊎◌}
 use Rattle.std.specs.declared.alloc.Global.{Global}
 use Rattle.edge_io.specs.Files.{Held, FilesSeen, IfTold, KeepsFiles}
 use Rattle.edge_io.specs.Sinks.{Appends}

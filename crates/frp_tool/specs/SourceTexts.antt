@@ -9,7 +9,7 @@ use Rattle.checked_source.specs.Readings.{Reading, Passing, Faulty, Misused, Cyc
 use Rattle.frp_tool.specs.Lines.{syntax_line, check_line, cycle_line}
 use Rattle.frp_tool.specs.Outsides.{Outside}
 use Rattle.frp_tool.specs.Endings.{Ends, DueOrYielded}
-use Rattle.frp_tool.specs.Reads.{Unread, unread_status, unread_line, IsUnread}
+use Rattle.frp_tool.specs.Reads.{Unread, TooLong, unread_status, unread_line, IsUnread}
 
 -- A reading is a fault, and so gives no program.
 abbrev pub IsRefused : Reading → Type 0
@@ -52,11 +52,18 @@ SourceCause source before after (SourceUnread why) = IsUnread source before afte
 SourceCause source before after (Refused reading) = OfSource source before (λ text. (length text ≤ LONGEST_FILE) × IsRead text reading) × IsRefused reading
 
 -- What a status says of the source of a command that reads nothing else. 1 comes only where the source is too long, or is read
--- as no program, where files are told. In the second case the line was put that says why.
+-- as no program, where files are told. The line was put that says so, or why.
 abbrev pub SourceRefuses : List ℕ → Outside → Outside → Type 0
 SourceRefuses source before after =
-    OfSource source before.files (λ text. LONGEST_FILE < length text)
+    (OfSource source before.files (λ text. LONGEST_FILE < length text) × Appends before.out.taken after.out.taken (unread_line source TooLong))
     ⊎ ((reading : Reading) × OfSource source before.files (λ text. IsRead text reading) × IsRefused reading × Appends before.out.taken after.out.taken (refusal_line reading))
+
+-- Where files are told, the source is too long, and no read fault is counted: the status is 1 and the line is put that says so, or
+-- it is 5 or 6.
+abbrev pub SourceTellsLong : List ℕ → Outside → Outside → ℕ → Type 0
+SourceTellsLong source before after status = (held : Held) (text : List ℕ) → before.files.told ≡ Some held → held source ≡ Some text → LONGEST_FILE < length text
+    → (Rose before.files.read_faults after.files.read_faults → ⊥)
+    → Ends before.out after.out 1 (unread_line source TooLong) status
 
 -- Where files are told, the source is short enough to be read, it is read as no program, and no read fault is counted: the
 -- status is 1 and the line is put that says why, or it is 5 or 6.

@@ -2,6 +2,7 @@
 ghost use Rattle.std.specs.Prelude.{◌≡◌, ◌≢◌, ◌++◌, IfOk, OnOk, string_bytes, codes};
 ghost use Rattle.std.specs.Fmt.{decimal};
 ghost use Rattle.frp_tree.specs.Tree.{program_tree_of};
+ghost use Rattle.firmware_map.specs.Laws.{HasNames};
 ghost use Rattle.firmware.specs.Builds.{IsBuildFault, IsBuilt};
 ghost use Rattle.frp_tool.specs.Endings.{Gives};
 ghost use Rattle.frp_tool.specs.Compiles.{AreTexts, CompileWorks};
@@ -66,6 +67,7 @@ fn texts_of(alloc: Global, c: &Checked, built: &Built) -> Result<Texts, AllocErr
 
 // What is made of a program, or why nothing is built of it.
 fn texts_in(alloc: Global, c: &Checked) -> Result<Texts, Halt>
+    requires { HasNames (program_tree_of c.now.typed.program) }
     ensures { Gives (λ texts. AreTexts (program_tree_of c.now.typed.program) texts.hex texts.map (string_bytes texts.summary)) (IsBuildFault (program_tree_of c.now.typed.program)) (λ fault. 1) build_line result }
 {
     match firmware::compile(alloc, c) {

@@ -1,8 +1,9 @@
 // The program that a source spells.
-ghost use Rattle.std.specs.Prelude.{◌≤◌};
+ghost use Rattle.std.specs.Prelude.{◌≤◌, IfOk};
 ghost use Rattle.frp_tree.specs.Tree.{program_tree_of};
 ghost use Rattle.checked_source.specs.Readings.{IsRead, Passing};
 ghost use Rattle.edge_io.specs.Files.{KeepsFiles};
+ghost use Rattle.firmware_map.specs.Laws.{HasNames};
 ghost use Rattle.frp_tool.specs.Endings.{Gives};
 ghost use Rattle.frp_tool.specs.SourceTexts.{IsRefused, SourceCause, SourceGives, refusal_line, source_line, source_status};
 
@@ -41,6 +42,7 @@ pub fn program_in(alloc: Global, text: &[u8]) -> Result<Checked, Halt>
 /// The program that the source of this name spells, where it passes the checks, or why there is none.
 pub fn read_source<F: Files>(alloc: Global, source: &Text, files: &mut F) -> Result<Checked, Halt>
     ensures gives { Gives (λ checked. SourceGives source.now (F.seen files.old) (program_tree_of checked.typed.program)) (SourceCause source.now (F.seen files.old) (F.seen files.new)) source_status (source_line source.now) result }
+    ensures named { IfOk result (λ checked. HasNames (program_tree_of checked.typed.program)) }
     ensures unchanged { KeepsFiles (F.seen files.old) (F.seen files.new) }
     ensures read_count { (F.seen files.old).read_faults ≤ (F.seen files.new).read_faults }
     ensures write_count { (F.seen files.old).write_faults ≤ (F.seen files.new).write_faults }

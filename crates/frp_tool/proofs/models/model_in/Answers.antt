@@ -1,4 +1,4 @@
-use Rattle.std.proofs.Common.{ℕ, List, String, string_bytes, Err, ap, refl}
+use Rattle.std.proofs.Common.{String, string_bytes, Err, ap, refl}
 use Rattle.std.specs.declared.alloc.Global.{Global}
 use Rattle.std.proofs.lemmas.Result.{err_from_is_err_and}
 use Rattle.frp_tree.specs.Tree.{ProgramTree, program_tree_of}

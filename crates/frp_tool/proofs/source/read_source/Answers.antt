@@ -1,8 +1,9 @@
 use Rattle.std.proofs.lemmas.Result.{err_from_is_err_and}
 use Rattle.frp_tree.specs.Tree.{program_tree_of}
 use Rattle.causality.specs.declared.checked.Checked.{Checked}
-use Rattle.checked_source.specs.Readings.{IsRead, Passing}
-use Rattle.frp_tool.specs.SourceTexts.{SourceGives}
+use Rattle.checked_source.specs.Readings.{Reading, IsRead, Passing}
+use Rattle.frp_tool.specs.SourceTexts.{IsRefused, SourceGives, refusal_line}
+use Rattle.frp_tool.proofs.SourceNameFacts.{read_has_names}
 use Rattle.frp_tool.proofs.SourceStepFacts.{source_unread, source_gives, source_read}
 use Rattle.frp_tool.proofs.source.read_source.Goals as goal
 
@@ -19,3 +20,7 @@ returns-clause-gives g c =
     source_read c.args.source.now seen after c.in_ok-text.text c.as_slice.result.now c.in_ok-text.ensures.gives c.as_slice.ensures
     (λ (d : Checked). IsRead c.as_slice.result.now (Passing (program_tree_of d.typed.program))) (λ (d : Checked). SourceGives c.args.source.now seen (program_tree_of d.typed.program)) c.program_in.result
     (λ d good. source_gives c.args.source.now seen after c.in_ok-text.text c.as_slice.result.now c.in_ok-text.ensures.gives c.as_slice.ensures (program_tree_of d.typed.program) good) c.program_in.ensures
+
+pub returns-clause-named : goal.returns-clause-named
+returns-clause-named g c =
+    read_has_names c.as_slice.result.now (λ (reading : Reading). IsRead c.as_slice.result.now reading × IsRefused reading) (λ reading. 1) refusal_line c.program_in.result c.program_in.ensures
