@@ -35,7 +35,7 @@ none-kept good test fails (x ∷ xs) h =
     let k = and_parts (good x) (list_all good xs) h in
     ap (λ b. if b then x ∷ filter test xs else filter test xs) (fails x k.0) ∙ none-kept good test fails xs k.1
 
-fails-first : {A : Type 0} (x : A) (rest : List A) (b : Bool) → (if b then x ∷ rest else rest) ≡ [] → (b ≡ false) × (rest ≡ [])
+pub fails-first : {A : Type 0} (x : A) (rest : List A) (b : Bool) → (if b then x ∷ rest else rest) ≡ [] → (b ≡ false) × (rest ≡ [])
 fails-first x rest true h = absurd cc
 fails-first x rest false h = (refl, h)
 

@@ -1,1 +1,6 @@
+mod BuiltFacts
 pub mod KindFacts
+mod LookFacts
+mod MadeFacts
+mod MapFacts
+mod WorkFacts

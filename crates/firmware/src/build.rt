@@ -6,12 +6,16 @@ ghost use Rattle.efrp_meaning.specs.Bounds.{levels, ram_bound};
 ghost use Rattle.priority_masks.specs.Levels.{AreLevelsOf};
 ghost use Rattle.program_bounds.specs.Bounded.{AreBounds};
 ghost use Rattle.firmware_map.specs.Laws.{HasNames};
-ghost use Rattle.firmware.specs.declared.faults.BuildFault.TheVariants.{Form, Memory, Ram, Stack};
+ghost use Rattle.firmware.specs.declared.faults.BuildFault.TheVariants.{Form, Memory, Stack};
 ghost use Rattle.firmware.specs.Builds.{HasCode, IsBuildFault, IsBuilt};
+ghost use Rattle.firmware.specs.Making.{IsRamFault};
 
 use crate::faults::BuildFault;
 use crate::kinds::has_code;
+use crate::making::{built, places_of};
+use crate::works::works_of;
 use causality::Checked;
+use firmware_layout::Parts;
 use hex_file::Image;
 use map_file::Map;
 use priority_masks::{Levels, TooDeep};
@@ -42,7 +46,7 @@ fn levels_of(c: &Checked) -> Result<Levels, BuildFault>
 // The bounds of a program, where the chip has so much RAM.
 fn bounds_in_ram(alloc: Global, c: &Checked) -> Result<Bounds, BuildFault>
     ensures ok { IfOk result (λ bounds. AreBounds (program_tree_of c.now.typed.program) bounds × (ram_bound (program_tree_of c.now.typed.program) ≤ 352)) }
-    ensures err { IfErr result (λ fault. (fault ≡ Memory) ⊎ ((fault ≡ Ram (ram_bound (program_tree_of c.now.typed.program))) × (352 < ram_bound (program_tree_of c.now.typed.program)))) }
+    ensures err { IfErr result (IsRamFault (program_tree_of c.now.typed.program)) }
 {
     let bounds = bounds_of(alloc, c)?;
     if bounds.ram > MOST_BYTES {
@@ -51,8 +55,7 @@ fn bounds_in_ram(alloc: Global, c: &Checked) -> Result<Bounds, BuildFault>
     Ok(bounds)
 }
 
-/// The firmware of a program that passes the checks and whose events and definitions have names, as those of a text have; or why
-/// there is none. `Form` comes exactly where it has an input or a table,
+/// The firmware of a program that passes the checks, or why there is none. `Form` comes exactly where it has an input or a table,
 /// and `Stack(n)` exactly where all others have n distinct priorities, more than 8; neither takes memory. `Ram(n)` comes only where
 /// the bound on its bytes of general RAM is n, more than 352, and `Code(n)` only where it is past its bound of 8,192 words.
 /// `Memory` is out of memory.
@@ -69,7 +72,15 @@ pub fn compile(alloc: Global, c: &Checked) -> Result<Built, BuildFault>
     if !has_code(c) {
         return Err(BuildFault::Form);
     }
-    let _levels = levels_of(c)?;
-    let _bounds = bounds_in_ram(alloc, c)?;
-    Err(BuildFault::Memory)
+    let levels = levels_of(c)?;
+    let bounds = bounds_in_ram(alloc, c)?;
+    let places = places_of(&levels, &bounds);
+    let works = works_of(alloc, c, &places)?;
+    let parts = Parts {
+        c,
+        levels: &levels,
+        places: &places,
+        works: works.as_slice(),
+    };
+    built(alloc, &parts, &bounds)
 }

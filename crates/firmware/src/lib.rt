@@ -8,6 +8,8 @@
 mod build;
 mod faults;
 mod kinds;
+mod making;
+mod works;
 
 pub use build::{Built, compile};
 pub use faults::BuildFault;
