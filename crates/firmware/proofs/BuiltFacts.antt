@@ -68,7 +68,7 @@ module _ (parts : Parts) (spread : Spread) (items : List Item) (its : IsCodeFor 
   words_bounded =
       let bound = words-are-bounded (made_of_parts parts spread) its.made its.spread_is in
       subst (λ is. words_in (has_pages items) is ≤ words_bound (program_in parts)) (sym its.items_are)
-          (subst (λ pages. words_in pages (items_of (made_of_parts parts spread)) ≤ words_bound (program_in parts)) its.pages bound)
+      (subst (λ pages. words_in pages (items_of (made_of_parts parts spread)) ≤ words_bound (program_in parts)) its.pages bound)
 
   -- A fault of the code is one of the program.
   pub is_fault : (fault : BuildFault) → AreMade parts → IsCodeFault items fault → IsFault (program_in parts) fault
@@ -82,12 +82,12 @@ module _ (parts : Parts) (spread : Spread) (items : List Item) (its : IsCodeFor 
   is_built laid m aside made laid_out mapped none =
       let f = made_of_parts parts spread in
       let written : IsWritten (program_in parts) (image_of laid) m =
-              written-is_firmware f laid m its.made its.spread_is (its.pages ∙ ap has_pages its.items_are) made.names laid_out mapped in
+      written-is_firmware f laid m its.made its.spread_is (its.pages ∙ ap has_pages its.items_are) made.names laid_out mapped in
       let built : IsBuilt (program_in parts) (record { image = image_of laid; map = m }) = record {
-            writable = written.writable;
-            rules = written.rules;
-            firmware = written.firmware;
-            scheduled = written.scheduled;
-            buildable = made.buildable;
-          } in
+        writable = written.writable;
+        rules = written.rules;
+        firmware = written.firmware;
+        scheduled = written.scheduled;
+        buildable = made.buildable;
+      } in
       subst (λ (bytes : List Aside). IsBuilt (program_in parts) (record { image = record { words = laid.words; config = Some 0x3F3A; aside = bytes }; map = m })) (sym none) built

@@ -49,11 +49,11 @@ all-coded (d ∷ ds) i t =
 pub program-tells : (p : ProgramTree) (ds : List Decl) (b : Bool) → p.decls ≡ map decl_of ds → b ≡ list_all (λ (d : Decl). is_coded (behaviour_of d.behaviour)) ds → IsTrue b ↔ HasCode p
 program-tells p ds b decls is =
     let tested : b ≡ list_all (λ (d : DeclTree). is_coded d.behaviour) p.decls =
-            is ∙ sym (list_all-map (λ (d : DeclTree). is_coded d.behaviour) decl_of ds) ∙ ap (list_all (λ (d : DeclTree). is_coded d.behaviour)) (sym decls) in (
+    is ∙ sym (list_all-map (λ (d : DeclTree). is_coded d.behaviour) decl_of ds) ∙ ap (list_all (λ (d : DeclTree). is_coded d.behaviour)) (sym decls) in (
       (λ yes.
-        let all = sym tested ∙ yes in record {
-          no_inputs = none-kept (λ (d : DeclTree). is_coded d.behaviour) (λ (d : DeclTree). is_input d.behaviour) (λ d h. no-input d.behaviour h) p.decls all;
-          no_tables = none-kept (λ (d : DeclTree). is_coded d.behaviour) (λ (d : DeclTree). is_table d.behaviour) (λ d h. no-table d.behaviour h) p.decls all;
-        }),
+          let all = sym tested ∙ yes in record {
+            no_inputs = none-kept (λ (d : DeclTree). is_coded d.behaviour) (λ (d : DeclTree). is_input d.behaviour) (λ d h. no-input d.behaviour h) p.decls all;
+            no_tables = none-kept (λ (d : DeclTree). is_coded d.behaviour) (λ (d : DeclTree). is_table d.behaviour) (λ d h. no-table d.behaviour h) p.decls all;
+          }),
       λ has. tested ∙ all-coded p.decls has.no_inputs has.no_tables,
     )

@@ -94,7 +94,7 @@ general_below address general = grind (arith, nat_tests)
 move_named : (f : Makings) → AreMakings f → (move : Move) → IsMoveIn f move → MoveNamed move
 move_named f are move its =
     let placed : (cell : ℕ) → cell < bytes_of f.need → address_of f.need cell < 512 =
-            λ cell less. general_below (address_of f.need cell) (addresses-general f.need are.bytes cell less) in
+    λ cell less. general_below (address_of f.need cell) (addresses-general f.need are.bytes cell less) in
     let cell = its.from.0 in
     let inside = its.from.1 in (
       subst IsPlace (sym its.from.2) (placed cell (omega (arith, inside))),

@@ -67,7 +67,7 @@ one_work_more p need count works one are its = record {
         let number = are.number in
         let inside : event < length works = omega (arith, less, number) in
         let same : get_or works event work ≡ work =
-                sym (get_or_append_left works (one ∷ []) work event inside) ∙ get_or_from_slice_get (works ++ one ∷ []) event work work found in
+        sym (get_or_append_left works (one ∷ []) work event inside) ∙ get_or_from_slice_get (works ++ one ∷ []) event work work found in
         are.each event work (slice_get_read works (length works) event work refl inside (sym same))
     by_place event work found (inr most) =
         let number = are.number in
@@ -75,5 +75,5 @@ one_work_more p need count works one are its = record {
         let inside = slice_get_within (works ++ one ∷ []) event work found in
         let last : event ≡ count = omega (arith, most, inside, long, number) in
         let same : one ≡ work =
-                sym (get_or_push works one work event (number ∙ sym last)) ∙ get_or_from_slice_get (works ++ one ∷ []) event work work found in
+        sym (get_or_push works one work event (number ∙ sym last)) ∙ get_or_from_slice_get (works ++ one ∷ []) event work work found in
         subst (λ n. IsWorkFor p need n work) (sym last) (subst (IsWorkFor p need count) same its)

@@ -25,11 +25,7 @@ fn work(alloc: Global, c: &Checked, places: &Places, event: u8) -> Result<Work, 
 }
 
 // The work of each event, by its number.
-pub(crate) fn works_of(
-    alloc: Global,
-    c: &Checked,
-    places: &Places,
-) -> Result<Vec<Work>, AllocError>
+pub(crate) fn works_of(alloc: Global, c: &Checked, places: &Places) -> Result<Vec<Work>, AllocError>
     requires has_code { HasCode (program_tree_of c.now.typed.program) }
     requires needs { AreNeeds (program_tree_of c.now.typed.program) places.now.need }
     ensures { IfOk result (λ works. AreWorks (program_tree_of c.now.typed.program) places.now.need works.items) }

@@ -9,7 +9,7 @@ pub loop-event-preserved : goal.loop-event-preserved
 loop-event-preserved c source =
     let f = makings_of c.args.parts.now c.args.spread source in
     subst (λ (frames : List Frame). AreFramesOf f (c.loop-event.event + 1) frames) (sym c.in_ok-push.ensures.items)
-        (one_frame_more f c.loop-event.event c.loop-event.frames.items c.frame.result (c.loop-event.invariant source) (c.frame.ensures source))
+    (one_frame_more f c.loop-event.event c.loop-event.frames.items c.frame.result (c.loop-event.invariant source) (c.frame.ensures source))
 
 pub returns : goal.returns
 returns c source =

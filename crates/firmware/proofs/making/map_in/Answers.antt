@@ -31,9 +31,9 @@ returns c =
     let frames = c.as_slice.result.now in
     let used : Used = record { need = parts.places.now.need; frames = frames; cells = c.most_cells.result; pages = c.args.spread.pages } in
     IfOk-weaker c.map_of.result (IsMapOf (program_in parts) used (made_of c.as_slice-marks.result.now c.len-words.result c.args.bounds.now.settle))
-        (λ m. (source : ℕ → Source) → IsMapped (makings_of parts c.args.spread source) c.args.laid.now m)
-        (λ m its source.
-        let are = subst (AreFrames (makings_of parts c.args.spread source)) (sym c.as_slice.ensures.value) (c.in_ok-frames.ensures source) in
-        is_mapped parts c.requires.parts c.most_cells.result cells c.args.spread source frames c.args.laid.now m
-        c.as_slice-marks.result.now c.len-words.result c.args.bounds.now.settle are c.as_slice-marks.ensures c.len-words.ensures c.requires.bounds.settle its)
-        c.map_of.ensures
+    (λ m. (source : ℕ → Source) → IsMapped (makings_of parts c.args.spread source) c.args.laid.now m)
+    (λ m its source.
+    let are = subst (AreFrames (makings_of parts c.args.spread source)) (sym c.as_slice.ensures.value) (c.in_ok-frames.ensures source) in
+    is_mapped parts c.requires.parts c.most_cells.result cells c.args.spread source frames c.args.laid.now m
+    c.as_slice-marks.result.now c.len-words.result c.args.bounds.now.settle are c.as_slice-marks.ensures c.len-words.ensures c.requires.bounds.settle its)
+    c.map_of.ensures

@@ -10,4 +10,4 @@ loop-event-preserved c =
     let p = program_tree_of c.args.c.now.typed.program in
     let need = c.args.places.now.need in
     subst (λ (works : List Work). AreWorksOf p need (c.loop-event.event + 1) works) (sym c.in_ok-push.ensures.items)
-        (one_work_more p need c.loop-event.event c.loop-event.works.items c.in_ok-one.one c.loop-event.invariant c.in_ok-one.ensures)
+    (one_work_more p need c.loop-event.event c.loop-event.works.items c.in_ok-one.one c.loop-event.invariant c.in_ok-one.ensures)
