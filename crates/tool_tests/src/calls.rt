@@ -17,7 +17,8 @@ pub(crate) enum Found {
 pub(crate) type Ended = (u8, Found, Found);
 
 /// A call: its words, the source, where it is there, the numbers of the calls of files and of the sink that fail,
-/// whole HEX and MAP, and the line that it is to put, without its end; an empty one where it is to put nothing.
+/// whole HEX and MAP, empty where they aren't stated, and the line that it is to put, without its end; an empty one where it
+/// is to put nothing.
 #[derive(Clone, Copy, Debug)]
 pub(crate) struct Call<'a> {
     pub words: &'a [&'a str],
@@ -107,10 +108,22 @@ fn attempt(alloc: Global, call: &Call<'_>) -> Result<(Ended, bool), AllocError> 
     Ok((ended, is_put(out.taken(), call.put)))
 }
 
+// What is found of a whole file.
+fn found_whole(whole: &str) -> Found {
+    if whole.is_empty() {
+        Found::Other
+    } else {
+        Found::Whole
+    }
+}
+
 // What status 6 may leave: nothing, or HEX, or both.
-fn may_run_out(ended: Ended) -> bool {
+fn may_run_out(call: &Call<'_>, ended: Ended) -> bool {
     let (_, hex, map) = ended;
-    hex == Found::Absent && map == Found::Absent || hex == Found::Whole && map != Found::Other
+    if hex == Found::Absent {
+        return map == Found::Absent;
+    }
+    hex == found_whole(call.hex) && (map == Found::Absent || map == found_whole(call.map))
 }
 
 /// Whether a call ends so and puts just its line. Where memory ran out, which it does once at most, this says so on
@@ -120,7 +133,7 @@ pub(crate) fn ends(rt: &(impl AllocGlobal + Print), call: &Call<'_>, want: Ended
         if ended.0 != NO_MEMORY {
             return ended == want && put;
         }
-        if !may_run_out(ended) {
+        if !may_run_out(call, ended) {
             return false;
         }
     }

@@ -17,36 +17,48 @@ const BRACKETS: &str =
 
 /// Its firmware and its map.
 pub(crate) const COUNTER_HEX: &str = ":020000040000FA
-:100000000030A00083160A288B1001302007A000C2
-:10001000860009000030860083120B168B170F280C
+:10000000A601831686010F280130A70027082607BE
+:10001000A8008B102808A600280886000900830184
+:060020000B168B171228DD
 :02400E003A3F37
 :00000001FF
 ";
 
 pub(crate) const COUNTER_MAP: &str = "efrp map 1
-event Tick INT 1 open 0007 commit 0008
-state n u8 020
+event Tick INT 1 open 000A commit 000D
+state n u8 026
 output PORTB
-ready 000F
+ready 0012
 regs 003-003
 regs 006-006
 regs 00B-00B
-regs 020-020
+regs 026-028
+regs 071-07F
 regs 086-086
-report depth 1 ram 1 words 16 settle 586
+report depth 1 ram 3 words 19 settle 586
 ";
 
-const SUMMARY: &str = "words 16 of 308 ram 1 of 11 depth 1 of 8 settle 586 of 586";
+const SUMMARY: &str = "words 19 of 308 ram 3 of 11 depth 1 of 8 settle 586 of 586";
 
 const USAGE: &str =
     "usage: efrp check SRC / compile SRC HEX MAP / run HEX MAP SCRIPT / model SRC EVENTS / big N HEX MAP";
 
-/// Programs that pass and of which nothing is built, each with the line that is told of it. The first fault comes first.
+/// Programs, each with its summary: none at all; no definition; eleven events on eight levels; and one whose bound on words is past
+/// 8,192, and its words aren't.
+const BUILT: &str = "\
+// nothing | words 6 of 112 ram 0 of 0 depth 0 of 8 settle 50 of 50
+event A = T0 priority 1; | words 10 of 256 ram 0 of 6 depth 1 of 8 settle 434 of 434
+event A = T0 priority 1; event B = INT priority 2; event C = PSP priority 3; event D = AD priority 4; event E = SSP priority 5; event F = CCP1 priority 6; event G = TMR2 priority 7; event H = TMR1 priority 8; event I = EE priority 1; event J = BCL priority 2; event K = CCP2 priority 3; | words 362 of 1696 ram 16 of 48 depth 8 of 8 settle 11314 of 11314
+event A = T0 priority 1; event B = INT priority 1; event C = PSP priority 1; event D = AD priority 1; event E = SSP priority 1; event F = CCP1 priority 1; event G = TMR2 priority 1; event H = TMR1 priority 1; event I = EE priority 1; event J = BCL priority 1; event K = CCP2 priority 1; let d : u16 = 1000w / 7w; output PORTB = u8(d); | words 4334 of 11002 ram 6 of 15 depth 1 of 8 settle 39298 of 39298";
+
+/// Programs that pass and of which nothing is built, each with the line that is told of it. The first fault comes first. The bound
+/// on the words of the last is 19,890.
 const UNBUILT: &str = "\
 let k : u8 = input PORTA; output PORTB = k; | refused: form
 let t : u8 = table { 1, 2 }; | refused: form
 event A = T0 priority 1; event B = INT priority 2; event C = PSP priority 3; event D = AD priority 4; event E = SSP priority 5; event F = CCP1 priority 6; event G = TMR2 priority 7; event H = TMR1 priority 8; event I = EE priority 9; | refused: stack 9
-event A = T0 priority 11; event B = INT priority 2; event C = PSP priority 3; event D = AD priority 4; event E = SSP priority 5; event F = CCP1 priority 6; event G = TMR2 priority 7; event H = TMR1 priority 8; event I = EE priority 9; let k : u8 = input PORTA; | refused: form";
+event A = T0 priority 11; event B = INT priority 2; event C = PSP priority 3; event D = AD priority 4; event E = SSP priority 5; event F = CCP1 priority 6; event G = TMR2 priority 7; event H = TMR1 priority 8; event I = EE priority 9; let k : u8 = input PORTA; | refused: form
+event A = T0 priority 1; event B = INT priority 1; event C = PSP priority 1; event D = AD priority 1; event E = SSP priority 1; event F = CCP1 priority 1; event G = TMR2 priority 1; event H = TMR1 priority 1; event I = EE priority 1; event J = BCL priority 1; event K = CCP2 priority 1; let d : u16 = 1000w / 7w / 3w; output PORTB = u8(d); | refused: code 8426";
 
 // A compile of this source that puts this.
 pub(crate) fn compile<'a>(source: Option<&'a [u8]>, put: &'a str) -> Call<'a> {
@@ -93,20 +105,50 @@ fn tells_why_nothing_is_built(rt: HostRuntime) {
     }
 }
 
-// A program of one event that needs 353 bytes of RAM by its bound: 174 for its states, 6 for its level and 173 for results.
-fn of_353_bytes(alloc: Global) -> Result<String, AllocError> {
+// Whether a program is built, with this summary, whatever its files.
+fn is_built(rt: &(impl AllocGlobal + Print), source: &str, put: &str) -> bool {
+    let call = Call {
+        hex: "",
+        map: "",
+        ..compile(Some(source.as_bytes()), put)
+    };
+    ends(rt, &call, (0, Found::Other, Found::Other))
+}
+
+#[test]
+fn tells_words_and_bytes_beside_their_bounds(rt: HostRuntime) {
+    for row in BUILT.lines() {
+        let (source, put) = parts_of(row);
+        assert!(rt; is_built(&rt, source, put), "{row}");
+    }
+}
+
+// A program of one event that needs 352 bytes of RAM by its bound, and as many more as these definitions have: 173 for its states, 6
+// for its level and 173 for results.
+fn of_352_bytes(alloc: Global, more: &str) -> Result<String, AllocError> {
     let mut text = String::from_str(alloc, "event Tick = INT priority 1;")?;
     for n in 0..86u32 {
         write!(text, "let n{n} : u16 = init 0w in {{ Tick => 1w; }};")?;
     }
-    text.push_str("let y : u8 = init 0 in { Tick => 1; };let z : u8 = init 0 in { };")?;
+    text.push_str("let y : u8 = init 0 in { Tick => 1; };")?;
+    text.push_str(more)?;
     Ok(text)
 }
 
 #[test]
-fn keeps_the_limit_on_ram(rt: HostRuntime) {
-    let text = made(&rt, || of_353_bytes(rt.alloc()));
-    let told = match text {
+fn builds_what_needs_352_bytes(rt: HostRuntime) {
+    let put = "words 1233 of 2678 ram 346 of 352 depth 1 of 8 settle 7354 of 7354";
+    let built = match made(&rt, || of_352_bytes(rt.alloc(), "")) {
+        Some(source) => is_built(&rt, source.as_str(), put),
+        None => false,
+    };
+    assert!(rt; built);
+}
+
+#[test]
+fn builds_nothing_that_needs_353_bytes(rt: HostRuntime) {
+    let more = "let z : u8 = init 0 in { };";
+    let told = match made(&rt, || of_352_bytes(rt.alloc(), more)) {
         Some(source) => is_unbuilt(&rt, source.as_str(), "refused: ram 353"),
         None => false,
     };

@@ -9,6 +9,8 @@ mod check_tests;
 #[cfg(test)]
 mod compile_tests;
 #[cfg(test)]
+mod lamp_tests;
+#[cfg(test)]
 mod model_tests;
 #[cfg(test)]
 mod run_calls;

@@ -14,9 +14,9 @@ const SCRIPT: &str = "at 1000 INT\nat 2001 INT\nat 3000 INT\nsteps 4000\n";
 
 /// What they do.
 const TRACE: &str =
-    "1000 latch INT\n1000 take\n1004 open Tick\n1005 port PORTB 01\n1005 commit Tick n=1\n\
-    2001 latch INT\n2001 take\n2005 open Tick\n2006 port PORTB 02\n2006 commit Tick n=2\n\
-    3000 latch INT\n3000 take\n3004 open Tick\n3005 port PORTB 03\n3005 commit Tick n=3\n\
+    "1000 latch INT\n1000 take\n1007 open Tick\n1010 port PORTB 01\n1010 commit Tick n=1\n\
+    2001 latch INT\n2001 take\n2008 open Tick\n2011 port PORTB 02\n2011 commit Tick n=2\n\
+    3000 latch INT\n3000 take\n3007 open Tick\n3010 port PORTB 03\n3010 commit Tick n=3\n\
     end 4000 deepest 1 n=3";
 
 /// A HEX file with one word, SLEEP.
