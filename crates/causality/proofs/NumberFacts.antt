@@ -15,7 +15,7 @@ use Rattle.efrp_meaning.specs.Meaning.{Now, Later, rule_on, clause_rule}
 use Rattle.efrp_meaning.specs.Causal.{dependencies_by, DependsOn}
 use Rattle.efrp_types.specs.declared.faults.CheckFault.{CheckFault}
 use Rattle.efrp_types.specs.declared.faults.CheckFault.TheVariants.{TableUse, UnknownName}
-use Rattle.efrp_types.specs.NameFaults.{fault_if, index_fault, use_faults, clause_faults, behaviour_faults, each_after, item_faults, expression_faults, name_faults, is_event}
+use Rattle.efrp_types.specs.NameFaults.{fault_if, index_fault, use_faults, clause_event_faults, clause_faults, behaviour_faults, each_after, item_faults, expression_faults, name_faults}
 use Rattle.efrp_types.specs.Numbers.{decl_number}
 use Rattle.efrp_types.proofs.NodeLaws.{both-none, some-fault}
 use Rattle.efrp_types.proofs.NumberLaws.{decl_number_agrees, decl_number_within, item_at, numbered}
@@ -116,7 +116,7 @@ module _ (p : ProgramTree) where
         parts = both-none (clause_faults p x before c) (each_after (clause_faults p x) (before ++ c ∷ []) cs) none
 
         uses : use_faults p c.expr ≡ []
-        uses = (both-none _ (use_faults p c.expr) (both-none (fault_if (not (is_event p.events c.event)) _) _ parts.0).1).1
+        uses = (both-none (clause_event_faults p x before c) (use_faults p c.expr) parts.0).1
 
         by_event : (b : Bool) → list_any (bytes_eq y) (dependencies_by x (clause_rule (cond b (Some c) (clause_for event cs)))) ≡ true
             → (list_any (bytes_eq y) (dependencies_by x (clause_rule (clause_for event cs))) ≡ true → Known y) → Known y

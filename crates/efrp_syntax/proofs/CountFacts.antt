@@ -4,35 +4,18 @@ use Rattle.std.specs.List.{AllByRecursion}
 use Rattle.std.proofs.lemmas.List.Sums.{sum_by-append}
 use Rattle.std.proofs.lemmas.List.{take_more, take-append-drop, append_assoc}
 use Rattle.frp_tree.specs.declared.kinds.Kind.{Kind}
-use Rattle.frp_tree.specs.declared.kinds.Kind.TheVariants.{Events, Setups, Definitions, Outputs, Nodes, Entries}
 use Rattle.frp_tree.specs.declared.limits.TheConstants.{MOST_ENTRIES_OF_A_TABLE}
 use Rattle.frp_tree.specs.Limits.{most}
 use Rattle.frp_tree.specs.Cells.{is_kind, is_of}
 use Rattle.efrp_syntax.specs.declared.begun.Begun.{Begun}
 use Rattle.efrp_syntax.specs.declared.counts.Counts.{Counts}
-use Rattle.efrp_syntax.specs.Programs.{noted_of, HasFew, IsFirstTooMany, counted}
+use Rattle.efrp_syntax.specs.Programs.{noted_of, HasFew, IsFirstTooManyAt, counted}
+use Rattle.efrp_syntax.proofs.KindLaws.{same_kind}
 
 -- The counts are those of these notes, which are few.
 pub record HasCounted (notes : List Begun) (counts : Counts) : Type 0 where
   pub told : (kind : Kind) → counted kind counts ≡ noted_of kind notes
   pub few : HasFew notes
-
-pub is_same : (kind : Kind) → is_kind kind kind ≡ true
-is_same Events = refl
-is_same Setups = refl
-is_same Definitions = refl
-is_same Outputs = refl
-is_same Nodes = refl
-is_same Entries = refl
-
-pub same_kind : (a b : Kind) → is_kind a b ≡ true → a ≡ b
-same_kind Events Events e = refl
-same_kind Setups Setups e = refl
-same_kind Definitions Definitions e = refl
-same_kind Outputs Outputs e = refl
-same_kind Nodes Nodes e = refl
-same_kind Entries Entries e = refl
-same_kind a b e = cc
 
 all_push : (P : Begun → Type 0) (xs : List Begun) (x : Begun) → AllByRecursion P xs → P x → AllByRecursion P (xs ++ x ∷ [])
 all_push P [] x h p = (p, tt)
@@ -48,8 +31,8 @@ told_more notes note kind counts more e h m k =
     m k ∙ ap (λ n. n + cond (is_kind k kind) 1 0) (h.told k) ∙ sym (noted_push k notes note ∙ ap (λ o. noted_of k notes + cond (is_of k o) 1 0) e)
 
 pub first_many : (begun front rest : List Begun) (note : Begun) (kind : Kind) (counts more : Counts) → begun ≡ front ++ note ∷ rest → note.kind ≡ Some kind → HasCounted front counts
-    → ((k : Kind) → counted k more ≡ counted k counts + cond (is_kind k kind) 1 0) → (most kind < counted kind more) ⊎ (MOST_ENTRIES_OF_A_TABLE < note.entry) → IsFirstTooMany begun kind
-first_many begun front rest note kind counts more w e h m o = record { front = front; note = note; rest = rest; whole = w; before = h.few; begun = e; many = go o }
+    → ((k : Kind) → counted k more ≡ counted k counts + cond (is_kind k kind) 1 0) → (most kind < counted kind more) ⊎ (MOST_ENTRIES_OF_A_TABLE < note.entry) → IsFirstTooManyAt begun (length front) kind
+first_many begun front rest note kind counts more w e h m o = (record { front = front; note = note; rest = rest; whole = w; before = h.few; begun = e; many = go o }, refl)
   where
     go : (most kind < counted kind more) ⊎ (MOST_ENTRIES_OF_A_TABLE < note.entry) → (most kind < noted_of kind (front ++ note ∷ [])) ⊎ (MOST_ENTRIES_OF_A_TABLE < note.entry)
     go (inl x) = inl (subst (λ n. most kind < n) (told_more front note kind counts more e h m kind) x)

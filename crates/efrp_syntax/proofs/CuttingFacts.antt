@@ -52,7 +52,7 @@ cut_prefix text rest more after found t h f w = record {
 }
 
 -- How far it has been cut.
-reaches : (text rest : List ℕ) (place : ℕ) (after : Bool) (found : List Token) → HasCut text rest after found → length text ≡ place + length rest → Reaches text place after rest
+unfoldable pub reaches : (text rest : List ℕ) (place : ℕ) (after : Bool) (found : List Token) → HasCut text rest after found → length text ≡ place + length rest → Reaches text place after rest
 reaches text rest place after found h e = record {
   tokens = found;
   cut = subst (λ xs. Cuts false text xs after rest) (append-nil found) (h.goes_on [] after rest here);

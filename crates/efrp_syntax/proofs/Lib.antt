@@ -10,9 +10,12 @@ pub mod FirstNumberFacts
 pub mod FirstTokenFacts
 pub mod ItemFacts
 pub mod ItemKindFacts
+pub mod KindLaws
 pub mod LoopLaws
 pub mod OperandFacts
 pub mod ParsedFacts
+pub mod PlaceFacts
+pub mod PlaceLaws
 pub mod PhraseLaws
 pub mod PrintedFacts
 pub mod ProgramFacts

@@ -85,7 +85,7 @@ cells_inside ts tail cells more e =
     omega (arith, ap length e, length-append (tokens_of (cells ++ more)) tail, length-map (cells ++ more) (λ (c : Cell). c.token), length-append cells more)
 
 -- One too many is the first past a limit.
-many_told : (ts tail : List Token) (used : List Cell) (notes : List Begun) (kind : Kind) → ts ≡ tokens_of used ++ tail → Begins used → IsShallow used → notes ≡ map begun used → IsFirstTooMany notes kind → IsTooMany ts kind
+pub many_told : (ts tail : List Token) (used : List Cell) (notes : List Begun) (kind : Kind) → ts ≡ tokens_of used ++ tail → Begins used → IsShallow used → notes ≡ map begun used → IsFirstTooMany notes kind → IsTooMany ts kind
 many_told ts tail used notes kind split b shallow e f =
     record {
       n = length a.before;
@@ -124,9 +124,16 @@ many_told ts tail used notes kind split b shallow e f =
     past (inl x) = in_program (subst (λ k. most kind < k) (ap (noted_of kind) notes_to ∙ noted_map kind (a.before ++ a.cell ∷ [])) x)
     past (inr x) = in_table (subst (λ (n : Begun). MOST_ENTRIES_OF_A_TABLE < n.entry) (sym a.noted) x)
 
+-- Its place is that of its note.
+pub many_placed : (ts tail : List Token) (used : List Cell) (notes : List Begun) (kind : Kind) (split : ts ≡ tokens_of used ++ tail) (b : Begins used) (shallow : IsShallow used) (e : notes ≡ map begun used) (f : IsFirstTooMany notes kind)
+    → (many_told ts tail used notes kind split b shallow e f).n ≡ length f.front
+unfolding many_told
+many_placed ts tail used notes kind split b shallow e f =
+    let a = around used f.front f.rest f.note (sym e ∙ f.whole) in sym (length-map a.before begun) ∙ ap length a.fronts
+
 -- The answers of the reader.
 
-found_begins : {ts : List Token} {p : ProgramTree} {notes : List Begun} → (f : Found SpellsProgram IsEnd ts p [] [] notes) → Begins f.used
+pub found_begins : {ts : List Token} {p : ProgramTree} {notes : List Begun} → (f : Found SpellsProgram IsEnd ts p [] [] notes) → Begins f.used
 found_begins {p = p} f = record { program = p; ahead = []; spelled = subst (SpellsProgram p) (sym (append-nil f.used)) f.spelled }
 
 pub found_many : {ts : List Token} {p : ProgramTree} {notes : List Begun} (kind : Kind) → Found SpellsProgram IsEnd ts p [] [] notes → IsFirstTooMany notes kind → IsTooMany ts kind

@@ -4,5 +4,6 @@ pub mod Items
 pub mod Lexed
 pub mod Parsed
 pub mod Pieces
+pub mod Places
 pub mod PrintedParts
 pub mod Programs

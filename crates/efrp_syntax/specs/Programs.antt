@@ -1,5 +1,5 @@
 -- What the reader of a whole program answers; and what the pass over its notes answers.
-use Rattle.std.specs.Prelude.{◌≡◌, ℕ, ◌<◌, ◌≤◌, List, [], ◌∷◌, ◌++◌, Some, Result, Ok, Err, count_by, ◌⊎◌}
+use Rattle.std.specs.Prelude.{◌≡◌, ◌≢◌, ℕ, ◌<◌, ◌≤◌, List, [], ◌∷◌, ◌++◌, length, Some, Result, Ok, Err, count_by, ◌⊎◌}
 use Rattle.std.specs.List.{AllByRecursion}
 use Rattle.frp_tree.specs.declared.kinds.Kind.{Kind}
 use Rattle.frp_tree.specs.declared.kinds.Kind.TheVariants.{Events, Setups, Definitions, Outputs, Nodes, Entries}
@@ -13,6 +13,7 @@ use Rattle.frp_tree.specs.Grammar.{SpellsProgram, HasTreeWithin}
 use Rattle.frp_tree.specs.Breaks.{IsUnexpected, IsTooDeep, IsTooMany}
 use Rattle.efrp_syntax.specs.declared.begun.Begun.{Begun}
 use Rattle.efrp_syntax.specs.declared.begun.Stop.{Stop}
+use Rattle.efrp_syntax.specs.declared.begun.Stop.TheVariants as stop
 use Rattle.efrp_syntax.specs.declared.faults.SyntaxFault.{SyntaxFault}
 use Rattle.efrp_syntax.specs.declared.faults.SyntaxFault.TheVariants.{BadByte, TooBig, Unexpected, TooDeep, TooMany, Memory}
 use Rattle.efrp_syntax.specs.declared.counts.Counts.{Counts}
@@ -23,6 +24,12 @@ use Rattle.efrp_syntax.specs.Items.{IsEnd}
 abbrev pub ReadWhole : List Token → List Begun → List Begun → Result Program Stop → Type 0
 ReadWhole ts before after (Ok p) = Found SpellsProgram IsEnd ts (program_tree_of p) [] before after
 ReadWhole ts before after (Err stop) = Fails SpellsProgram IsEnd ts before after stop
+
+-- What the reader noted, however it ended but by out of memory.
+pub record AreNoted (ts : List Token) (notes : List Begun) : Type 0 where
+  pub answer : Result Program Stop
+  pub read : ReadWhole ts [] notes answer
+  pub full : answer ≢ Err stop.Memory
 
 -- How many of a kind are noted.
 abbrev pub noted_of : Kind → List Begun → ℕ
@@ -42,6 +49,10 @@ pub record IsFirstTooMany (notes : List Begun) (kind : Kind) : Type 0 where
   pub before : HasFew front
   pub begun : note.kind ≡ Some kind
   pub many : (most kind < noted_of kind (front ++ note ∷ [])) ⊎ (MOST_ENTRIES_OF_A_TABLE < note.entry)
+
+-- It stands at this place.
+abbrev pub IsFirstTooManyAt : List Begun → ℕ → Kind → Type 0
+IsFirstTooManyAt notes place kind = (first : IsFirstTooMany notes kind) × (length first.front ≡ place)
 
 -- How many of a kind were counted.
 abbrev pub counted : Kind → Counts → ℕ

@@ -3,7 +3,7 @@ ghost use Rattle.std.specs.Prelude.{◌≡◌, ◌+◌, ◌≤◌, ℕ, MatchOpt
 ghost use Rattle.frp_tree.specs.declared.kinds.Kind.{Kind as Kinds};
 ghost use Rattle.frp_tree.specs.Cells.{is_kind};
 ghost use Rattle.frp_tree.specs.Limits.{most};
-ghost use Rattle.efrp_syntax.specs.Programs.{counted, HasFew, IsFirstTooMany};
+ghost use Rattle.efrp_syntax.specs.Programs.{counted, HasFew, IsFirstTooManyAt};
 
 use crate::begun::Begun;
 use frp_tree::Kind;
@@ -63,17 +63,17 @@ impl Counts {
     }
 }
 
-/// The kind of the first that is one too many of its kind in a program, or an entry too many for its table. The time is
-/// linear, and it takes no memory.
-pub fn one_too_many(begun: &[Begun]) -> Option<Kind>
-    ensures { MatchOption result (HasFew begun.now) (λ kind. IsFirstTooMany begun.now kind) }
+/// The place, from 0 on, and the kind of the first that is one too many of its kind in a program, or an entry too many for
+/// its table. The time is linear, and it takes no memory.
+pub fn one_too_many(begun: &[Begun]) -> Option<(usize, Kind)>
+    ensures { MatchOption result (HasFew begun.now) (λ found. IsFirstTooManyAt begun.now found.0 found.1) }
 {
     let mut counts = NONE;
-    for note in begun {
+    for (place, note) in begun.iter().enumerate() {
         if let Some(kind) = note.kind {
             counts = counts.and(kind);
             if counts.of(kind) > kind.most() || note.entry > MOST_ENTRIES_OF_A_TABLE as usize {
-                return Some(kind);
+                return Some((place, kind));
             }
         }
     }

@@ -12,7 +12,7 @@ use frp_tree::{List, Token};
 use std::alloc::Global;
 
 /// Whether the token is a number, with a suffix or without.
-fn is_number(token: &Token) -> bool
+pub fn is_number(token: &Token) -> bool
     ensures { result ≡ is_number_token token.now }
 {
     matches!(token, Token::Num(_) | Token::Wide(_))

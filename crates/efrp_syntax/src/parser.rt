@@ -21,7 +21,7 @@ fn few(begun: &[Begun]) -> Result<(), SyntaxFault>
     ensures { MatchResult result (λ done. HasFew begun.now) (λ fault. (kind : Kinds) × (fault ≡ SyntaxFault.TooMany kind) × IsFirstTooMany begun.now kind) }
 {
     match one_too_many(begun) {
-        Some(kind) => Err(SyntaxFault::TooMany(kind)),
+        Some((_, kind)) => Err(SyntaxFault::TooMany(kind)),
         None => Ok(()),
     }
 }

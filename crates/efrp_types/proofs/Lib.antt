@@ -1,7 +1,7 @@
 pub mod AnswerLaws
 pub mod DeclFacts
 pub mod Examples
-pub mod FitFacts
+pub mod FitLaws
 pub mod FormedLaws
 pub mod KeyFacts
 pub mod GoodLaws
@@ -9,5 +9,6 @@ pub mod ListFacts
 pub mod NodeFacts
 pub mod NodeLaws
 pub mod NumberLaws
+pub mod RowLaws
 pub mod SourceFacts
 pub mod TypedLaws

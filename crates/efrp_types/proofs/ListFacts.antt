@@ -1,8 +1,8 @@
 -- Rows of items, and the faults of each.
-use Rattle.std.specs.Prelude.{◌≡◌, ℕ, zero, suc, ◌<◌, Bool, true, false, List, [], ◌∷◌, ◌++◌, length, map, refl}
+use Rattle.std.specs.Prelude.{◌≡◌, ℕ, Bool, true, false, List, [], ◌∷◌, ◌++◌, map, refl}
 use Rattle.std.specs.List.{AllByRecursion, IsDistinct, flat_map, list_any}
 use Rattle.std.specs.Str.{bytes_eq}
-use Rattle.std.proofs.Common.{sym, subst, get_or, arith, ◌∙◌}
+use Rattle.std.proofs.Common.{sym, ◌∙◌}
 use Rattle.std.proofs.lemmas.Bool.{or_parts, false≢true}
 use Rattle.std.proofs.lemmas.List.Folds.{list_any-append}
 use Rattle.std.proofs.lemmas.Slice.Eq.{bytes_eq-Decides}
@@ -13,17 +13,6 @@ use Rattle.efrp_types.proofs.NodeLaws.{both-none, none-of-both}
 pub both : {A : Type 0} (P Q R : A → Type 0) → ((x : A) → P x → Q x → R x) → (xs : List A) → AllByRecursion P xs → AllByRecursion Q xs → AllByRecursion R xs
 both P Q R each [] p q = tt
 both P Q R each (x ∷ xs) p q = (each x p.0 q.0, both P Q R each xs p.1 q.1)
-
--- What holds of each holds of the one at a place.
-pub all-at : {A : Type 0} (P : A → Type 0) (xs : List A) (i : ℕ) (x : A) → i < length xs → x ≡ get_or xs i x → AllByRecursion P xs → P x
-all-at P [] i x less is all = absurd (omega (arith, less))
-all-at P (y ∷ ys) zero x less is all = subst P (sym is) all.0
-all-at P (y ∷ ys) (suc i) x less is all = all-at P ys i x (omega (arith, less)) is all.1
-
--- What holds of each that is mapped.
-pub all-of : {A B : Type 0} (P : B → Type 0) (g : A → B) (xs : List A) → AllByRecursion P (map g xs) → AllByRecursion (λ x. P (g x)) xs
-all-of P g [] all = tt
-all-of P g (x ∷ xs) all = (all.0, all-of P g xs all.1)
 
 -- None of a row has a fault.
 pub none-each : {A : Type 0} (faults : A → List CheckFault) (xs : List A) → flat_map faults xs ≡ [] → AllByRecursion (λ x. faults x ≡ []) xs

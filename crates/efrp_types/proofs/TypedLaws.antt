@@ -16,7 +16,7 @@ use Rattle.efrp_meaning.specs.Decls.{decl_named, is_table}
 use Rattle.efrp_meaning.specs.Types.{literal_type, same_type, type_of, type_of_table, value_type, entry_type, unary_type, binary_type, shift_type, if_type, convert_type, look_type, IsTypedAs}
 use Rattle.efrp_types.specs.declared.faults.CheckFault.{CheckFault}
 use Rattle.efrp_types.specs.declared.faults.CheckFault.TheVariants.{LiteralRange, TypeOf, TableUse, UnknownName}
-use Rattle.efrp_types.specs.NameFaults.{fault_if, index_fault, use_faults, item_faults, expression_faults, behaviour_faults, clause_faults, each_after, is_event}
+use Rattle.efrp_types.specs.NameFaults.{fault_if, index_fault, use_faults, item_faults, expression_faults, behaviour_faults, clause_event_faults, clause_faults, each_after}
 use Rattle.efrp_types.specs.TypeFaults.{unlike, unary_faults, binary_faults, shift_faults, convert_faults, node_of_one, faults_in, faults_as, literal_faults, setup_byte_faults, behaviour_type_faults}
 use Rattle.efrp_types.specs.Laws.{has_entries, NoFaultIsTyped, TypedHasNoFault}
 use Rattle.efrp_types.proofs.NodeLaws.{Agrees, some-fault, both-none, none-of-both, fault-false, false-no-fault, agrees-of-one, agrees-of-two, agrees-of-three, unary-agrees, no-unary, binary-agrees, no-binary-left, no-binary-right, shift-agrees, if-agrees, no-if-first, no-if-second, no-if-third, to-u8-agrees, to-u16-agrees, look-agrees, same-is, same-self}
@@ -116,7 +116,7 @@ module _ (p : ProgramTree) where
 
   -- The clauses of a definition.
   clause-uses : (owner : List ℕ) (before : List ClauseTree) (c : ClauseTree) → clause_faults p owner before c ≡ [] → use_faults p c.expr ≡ []
-  clause-uses owner before c none = (both-none _ (use_faults p c.expr) (both-none (fault_if (not (is_event p.events c.event)) _) _ none).1).1
+  clause-uses owner before c none = (both-none (clause_event_faults p owner before c) (use_faults p c.expr) none).1
 
   clauses-typed : (owner : List ℕ) (t : Ty) (cs : List ClauseTree) → list_all (λ c. converts_to_numbers c.expr) cs ≡ true → AllByRecursion (λ (c : ClauseTree). use_faults p c.expr ≡ []) cs
       → flat_map (λ (c : ClauseTree). faults_as p owner t c.expr) cs ≡ [] → AllByRecursion (λ (c : ClauseTree). type_of p c.expr ≡ Some t) cs

@@ -84,11 +84,14 @@ use_faults p (If c a b) = use_faults p c ++ (use_faults p a ++ use_faults p b)
 use_faults p (Convert to a) = use_faults p a
 use_faults p (Look table index) = index_fault p table ++ use_faults p index
 
--- The second walk: a clause, with those before it, of a definition of this name; a definition.
-abbrev pub clause_faults : ProgramTree → List ℕ → List ClauseTree → ClauseTree → List CheckFault
-clause_faults p owner before c =
+-- The second walk: a clause, with those before it, of a definition of this name, of which its event comes first; a definition.
+abbrev pub clause_event_faults : ProgramTree → List ℕ → List ClauseTree → ClauseTree → List CheckFault
+clause_event_faults p owner before c =
     fault_if (not (is_event p.events c.event)) (UnknownEvent c.event)
-    ++ (fault_if (list_any (λ (b : ClauseTree). bytes_eq c.event b.event) before) (ClauseTwice owner c.event) ++ use_faults p c.expr)
+    ++ fault_if (list_any (λ (b : ClauseTree). bytes_eq c.event b.event) before) (ClauseTwice owner c.event)
+
+abbrev pub clause_faults : ProgramTree → List ℕ → List ClauseTree → ClauseTree → List CheckFault
+clause_faults p owner before c = clause_event_faults p owner before c ++ use_faults p c.expr
 
 abbrev pub behaviour_faults : ProgramTree → List ℕ → BehaviourTree → List CheckFault
 behaviour_faults p owner (Plain e) = use_faults p e

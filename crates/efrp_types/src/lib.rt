@@ -4,12 +4,12 @@
 mod faults;
 mod laws;
 mod lookups;
-mod names;
-mod nodes;
+pub mod names;
+pub mod nodes;
 mod reasons;
 mod table;
 mod typed;
-mod types;
+pub mod types;
 
 pub use faults::CheckFault;
 pub use laws::{

@@ -6,7 +6,7 @@ ghost use Rattle.frp_tree.specs.declared.syntax.Output.{Output as AnyOutput};
 ghost use Rattle.frp_tree.specs.declared.syntax.Setup.{Setup as AnySetup};
 ghost use Rattle.frp_tree.specs.Tree.{behaviour_of, clause_of, decl_of, output_of, program_tree_of, tree_of};
 ghost use Rattle.efrp_types.specs.Answers.{Tells};
-ghost use Rattle.efrp_types.specs.NameFaults.{behaviour_faults, clause_faults, decl_faults, each_after, event_faults, expression_faults, index_fault, input_faults, item_faults, name_fault, name_faults, output_faults, port_faults, setup_faults, use_faults};
+ghost use Rattle.efrp_types.specs.NameFaults.{behaviour_faults, clause_event_faults, clause_faults, decl_faults, each_after, event_faults, expression_faults, index_fault, input_faults, item_faults, name_fault, name_faults, output_faults, port_faults, setup_faults, use_faults};
 ghost use Rattle.efrp_types.specs.Numbers.{AreNamesOf};
 
 use crate::faults::CheckFault;
@@ -19,7 +19,8 @@ use crate::table::Names;
 use frp_tree::{Behaviour, Clause, Decl, Event, Expr, Output, Program, Setup, Text};
 use std::alloc::Global;
 
-fn event(alloc: Global, before: &[Event], e: &Event) -> Result<(), CheckFault>
+/// An event, with those before it. Its first fault, or `Memory`.
+pub fn event(alloc: Global, before: &[Event], e: &Event) -> Result<(), CheckFault>
     ensures { Tells (event_faults before.now e.now) result }
 {
     refuse_if(alloc, is_event(before, &e.name), Reason::Twice, &e.name)?;
@@ -53,7 +54,8 @@ fn events(alloc: Global, events: &[Event]) -> Result<(), CheckFault>
     Ok(())
 }
 
-fn setup(alloc: Global, s: &Setup) -> Result<(), CheckFault>
+/// A setup. Its first fault, or `Memory`.
+pub fn setup(alloc: Global, s: &Setup) -> Result<(), CheckFault>
     ensures { Tells (setup_faults s.now) result }
 {
     refuse_if(
@@ -88,7 +90,8 @@ fn input(alloc: Global, behaviour: &Behaviour) -> Result<(), CheckFault>
     }
 }
 
-fn decl(alloc: Global, events: &[Event], before: &[Decl], d: &Decl) -> Result<(), CheckFault>
+/// A definition, with the events and the definitions before it. Its first fault, or `Memory`.
+pub fn decl(alloc: Global, events: &[Event], before: &[Decl], d: &Decl) -> Result<(), CheckFault>
     ensures { Tells (decl_faults events.now (map decl_of before.now) (decl_of d.now)) result }
 {
     refuse_if(
@@ -109,7 +112,8 @@ fn decls(alloc: Global, events: &[Event], decls: &[Decl]) -> Result<(), CheckFau
     Ok(())
 }
 
-fn output(alloc: Global, before: &[Output], o: &Output) -> Result<(), CheckFault>
+/// An output, with those before it. Its first fault, or `Memory`.
+pub fn output(alloc: Global, before: &[Output], o: &Output) -> Result<(), CheckFault>
     ensures { Tells (output_faults (map output_of before.now) (output_of o.now)) result }
 {
     port(alloc, &o.port)?;
@@ -130,7 +134,8 @@ fn outputs(alloc: Global, outputs: &[Output]) -> Result<(), CheckFault>
     Ok(())
 }
 
-fn name(alloc: Global, p: &Program, x: &Text) -> Result<(), CheckFault>
+/// A name that stands by itself in an expression. Its first fault, or `Memory`.
+pub fn name(alloc: Global, p: &Program, x: &Text) -> Result<(), CheckFault>
     ensures { Tells (name_fault (program_tree_of p.now) x.now) result }
 {
     match decl_named(p.decls.as_slice(), x) {
@@ -139,7 +144,8 @@ fn name(alloc: Global, p: &Program, x: &Text) -> Result<(), CheckFault>
     }
 }
 
-fn indexed(alloc: Global, p: &Program, x: &Text) -> Result<(), CheckFault>
+/// A name that is indexed. Its first fault, or `Memory`.
+pub fn indexed(alloc: Global, p: &Program, x: &Text) -> Result<(), CheckFault>
     ensures { Tells (index_fault (program_tree_of p.now) x.now) result }
 {
     match decl_named(p.decls.as_slice(), x) {
@@ -173,6 +179,21 @@ fn uses(alloc: Global, p: &Program, e: &Expr) -> Result<(), CheckFault>
     }
 }
 
+/// The event of a clause, with the clauses before it, of the definition of this name. Its first fault, or `Memory`.
+pub fn clause_event(
+    alloc: Global,
+    p: &Program,
+    owner: &Text,
+    before: &[Clause],
+    c: &Clause,
+) -> Result<(), CheckFault>
+    ensures { Tells (clause_event_faults (program_tree_of p.now) owner.now (map clause_of before.now) (clause_of c.now)) result }
+{
+    let is_unknown = !is_event(p.events.as_slice(), &c.event);
+    refuse_if(alloc, is_unknown, Reason::UnknownEvent, &c.event)?;
+    refuse_clause_if(alloc, is_clause(before, &c.event), owner, &c.event)
+}
+
 fn clause(
     alloc: Global,
     p: &Program,
@@ -182,9 +203,7 @@ fn clause(
 ) -> Result<(), CheckFault>
     ensures { Tells (clause_faults (program_tree_of p.now) owner.now (map clause_of before.now) (clause_of c.now)) result }
 {
-    let is_unknown = !is_event(p.events.as_slice(), &c.event);
-    refuse_if(alloc, is_unknown, Reason::UnknownEvent, &c.event)?;
-    refuse_clause_if(alloc, is_clause(before, &c.event), owner, &c.event)?;
+    clause_event(alloc, p, owner, before, c)?;
     uses(alloc, p, &c.expr)
 }
 

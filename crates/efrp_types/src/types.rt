@@ -107,7 +107,7 @@ fn as_type(
 }
 
 /// A first value, or an entry, of which a type is wanted.
-fn literal_as(alloc: Global, owner: &Text, wanted: Ty, lit: Lit) -> Result<(), CheckFault>
+pub fn literal_as(alloc: Global, owner: &Text, wanted: Ty, lit: Lit) -> Result<(), CheckFault>
     ensures { (p : ProgramTree) → Tells (literal_faults p owner.now wanted lit) result }
 {
     let found = literal(alloc, owner, lit)?;
@@ -184,7 +184,8 @@ fn outputs(alloc: Global, p: &Program, names: &Names, outputs: &[Output]) -> Res
     Ok(())
 }
 
-fn setup(alloc: Global, s: &Setup) -> Result<(), CheckFault>
+/// The byte of a setup.
+pub fn setup(alloc: Global, s: &Setup) -> Result<(), CheckFault>
     ensures { Tells (setup_byte_faults s.now) result }
 {
     refuse_if(alloc, s.byte > 255, Reason::LiteralRange, &s.register)

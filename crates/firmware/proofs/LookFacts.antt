@@ -8,7 +8,7 @@ use Rattle.frp_tree.specs.Tree.{Tree, Const, Name, Unary, Binary, Shift, If, Con
 use Rattle.efrp_meaning.specs.Decls.{decl_named, is_table}
 use Rattle.efrp_types.specs.declared.faults.CheckFault.{CheckFault}
 use Rattle.efrp_types.specs.declared.faults.CheckFault.TheVariants.{TableUse, UnknownName}
-use Rattle.efrp_types.specs.NameFaults.{behaviour_faults, clause_faults, each_after, expression_faults, fault_if, index_fault, item_faults, name_faults, use_faults}
+use Rattle.efrp_types.specs.NameFaults.{behaviour_faults, clause_event_faults, clause_faults, each_after, expression_faults, fault_if, index_fault, item_faults, name_faults, use_faults}
 use Rattle.efrp_types.proofs.NodeLaws.{both-none, fault-false, some-fault}
 use Rattle.expr_lower.specs.Lowered.{HasNoLook}
 use Rattle.event_ops.specs.Works.{HasNoLooks, LookNowhere}
@@ -55,9 +55,8 @@ module _ (p : ProgramTree) (none : tables_of p ≡ []) where
   clauses-look owner before [] h = tt
   clauses-look owner before (c ∷ cs) h =
       let k = both-none (clause_faults p owner before c) _ h in
-      let l = both-none _ _ k.0 in
-      let m = both-none _ (use_faults p c.expr) l.1 in
-      (looks c.expr m.1, clauses-look owner _ cs k.1)
+      let l = both-none (clause_event_faults p owner before c) (use_faults p c.expr) k.0 in
+      (looks c.expr l.1, clauses-look owner _ cs k.1)
 
   behaviour-looks : (owner : List ℕ) (b : BehaviourTree) → behaviour_faults p owner b ≡ [] → LookNowhere b
   behaviour-looks owner (Plain e) h = looks e h

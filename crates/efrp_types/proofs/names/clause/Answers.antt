@@ -1,20 +1,8 @@
-use Rattle.std.specs.Str.{bytes_eq}
-use Rattle.std.proofs.Common.{◌∙◌}
-use Rattle.frp_tree.specs.Tree.{ClauseTree, clause_of}
 use Rattle.efrp_types.proofs.AnswerLaws.{told-first, rest-tells}
-use Rattle.efrp_types.proofs.DeclFacts.{any-of}
 use Rattle.efrp_types.proofs.names.clause.Goals as goal
 
-pub returns-in_err-refuse_if : goal.returns-in_err-refuse_if
-returns-in_err-refuse_if c = told-first _ _ _ c.from_residual.result c.from_residual.ensures.1 (rw (c.is_event-is_unknown.ensures, c.as_slice.ensures) at c.in_err-refuse_if.ensures)
-
-pub returns-in_err-refuse_clause_if : goal.returns-in_err-refuse_clause_if
-returns-in_err-refuse_clause_if c =
-    rest-tells _ _ _ (rw (c.is_event-is_unknown.ensures, c.as_slice.ensures) at c.in_ok-refuse_if.ensures)
-    (told-first _ _ _ c.from_residual-in_err-refuse_clause_if.result c.from_residual-in_err-refuse_clause_if.ensures.1
-    (rw (c.is_clause.ensures ∙ any-of clause_of (λ (b : ClauseTree). bytes_eq c.args.c.now.event b.event) c.args.before.now) at c.in_err-refuse_clause_if.ensures))
+pub returns-in_err-clause_event : goal.returns-in_err-clause_event
+returns-in_err-clause_event c = told-first _ _ _ c.from_residual.result c.from_residual.ensures.1 c.in_err-clause_event.ensures
 
 pub returns : goal.returns
-returns c =
-    rest-tells _ _ _ (rw (c.is_event-is_unknown.ensures, c.as_slice.ensures) at c.in_ok-refuse_if.ensures)
-    (rest-tells _ _ _ (rw (c.is_clause.ensures ∙ any-of clause_of (λ (b : ClauseTree). bytes_eq c.args.c.now.event b.event) c.args.before.now) at c.in_ok-refuse_clause_if.ensures) c.uses.ensures)
+returns c = rest-tells _ _ _ c.in_ok-clause_event.ensures c.uses.ensures

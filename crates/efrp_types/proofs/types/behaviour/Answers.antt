@@ -5,7 +5,7 @@ use Rattle.efrp_types.specs.Ready.{IsFit}
 use Rattle.efrp_types.specs.TypeFaults.{faults_as, literal_faults}
 use Rattle.efrp_types.proofs.AnswerLaws.{told-first, rest-tells}
 use Rattle.efrp_types.proofs.DeclFacts.{flat-row, flat-trees}
-use Rattle.efrp_types.proofs.ListFacts.{all-of}
+use Rattle.efrp_types.proofs.RowLaws.{all-of}
 use Rattle.efrp_types.proofs.types.behaviour.Goals as goal
 
 pub returns-in-Table : goal.returns-in-Table

@@ -4,7 +4,7 @@ use Rattle.frp_tree.specs.Tree.{program_tree_of, behaviour_of}
 use Rattle.efrp_types.specs.Ready.{AreFit}
 use Rattle.efrp_types.specs.TypeFaults.{behaviour_type_faults}
 use Rattle.efrp_types.proofs.AnswerLaws.{gone-more, gone-told, gone-all}
-use Rattle.efrp_types.proofs.ListFacts.{all-at}
+use Rattle.efrp_types.proofs.RowLaws.{all-at}
 use Rattle.efrp_types.proofs.types.decls.Goals as goal
 
 pub returns-in_err-behaviour : goal.returns-in_err-behaviour

@@ -4,8 +4,8 @@ use Rattle.efrp_types.specs.Ready.{AreFit, IsFit}
 use Rattle.efrp_types.specs.TypeFaults.{setup_byte_faults, behaviour_type_faults, faults_as}
 use Rattle.efrp_types.proofs.AnswerLaws.{told-first, rest-tells}
 use Rattle.efrp_types.proofs.DeclFacts.{flat-row, flat-trees}
-use Rattle.efrp_types.proofs.FitFacts.{decls-fit, outputs-fit}
-use Rattle.efrp_types.proofs.ListFacts.{all-of}
+use Rattle.efrp_types.proofs.FitLaws.{decls-fit, outputs-fit}
+use Rattle.efrp_types.proofs.RowLaws.{all-of}
 use Rattle.efrp_types.proofs.types.items.Goals as goal
 
 pub returns-in_err-setups : goal.returns-in_err-setups

@@ -5,7 +5,7 @@ use Rattle.frp_tree.specs.Tree.{program_tree_of, tree_of}
 use Rattle.efrp_types.specs.Ready.{IsFit}
 use Rattle.efrp_types.specs.TypeFaults.{faults_as}
 use Rattle.efrp_types.proofs.AnswerLaws.{gone-more, gone-told, gone-all}
-use Rattle.efrp_types.proofs.ListFacts.{all-at}
+use Rattle.efrp_types.proofs.RowLaws.{all-at}
 use Rattle.efrp_types.proofs.types.outputs.Goals as goal
 
 pub returns-in_err-as_type : goal.returns-in_err-as_type

@@ -4,7 +4,7 @@ use Rattle.frp_tree.specs.Tree.{program_tree_of}
 use Rattle.pic_isa.specs.declared.sources.Source.{Source}
 use Rattle.pic_isa.specs.Sources.{source_name}
 use Rattle.efrp_types.proofs.GoodLaws.{no-fault-is-good}
-use Rattle.efrp_types.proofs.ListFacts.{all-at}
+use Rattle.efrp_types.proofs.RowLaws.{all-at}
 use Rattle.efrp_types.proofs.NumberLaws.{source_at}
 use Rattle.efrp_types.proofs.SourceFacts.{has-source}
 use Rattle.efrp_types.proofs.typed.Typed.event_source.Goals as goal

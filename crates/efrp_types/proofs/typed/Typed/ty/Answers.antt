@@ -1,5 +1,5 @@
 use Rattle.frp_tree.specs.Tree.{program_tree_of, tree_of}
-use Rattle.efrp_types.proofs.FitFacts.{typed-fit, some-result}
+use Rattle.efrp_types.proofs.FitLaws.{typed-fit, some-result}
 use Rattle.efrp_types.proofs.typed.Typed.ty.Goals as goal
 
 pub type_at-requires-clause-fit : goal.type_at-requires-clause-fit
