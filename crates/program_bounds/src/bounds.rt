@@ -1,12 +1,12 @@
 // The bounds of a program, from what its events cost.
-ghost use Rattle.std.specs.Prelude.{◌≡◌, ◌+◌, ◌*◌, ◌<◌, ◌≤◌, ◌^◌, IfOk, map, sum_by};
+ghost use Rattle.std.specs.Prelude.{◌≡◌, ◌+◌, ◌*◌, ◌<◌, ◌≤◌, ◌^◌, ℕ, List, IfOk, map, sum_by};
 ghost use Rattle.frp_tree.specs.declared.syntax.Event.{Event};
-ghost use Rattle.frp_tree.specs.Tree.{program_tree_of};
-ghost use Rattle.efrp_meaning.specs.Bounds.{body, greatest, scratch_bytes};
-ghost use Rattle.program_bounds.specs.Bounded.{AreBounds};
+ghost use Rattle.frp_tree.specs.Tree.{ProgramTree, program_tree_of};
+ghost use Rattle.efrp_meaning.specs.Bounds.{body, greatest, response, scratch_bytes};
+ghost use Rattle.program_bounds.specs.Bounded.{AreBounds, AreCosts};
 ghost use Rattle.program_bounds.specs.Sized.{AreTotals};
 
-use crate::costs::costs_of;
+use crate::costs::{Costs, costs_of};
 use crate::sizes::{levels_of, sizes_of};
 use causality::Checked;
 use std::alloc::{AllocError, Global};
@@ -24,6 +24,18 @@ pub struct Bounds {
     pub settle: u32,
     pub states: u32,
     pub scratch: u32,
+}
+
+impl Bounds {
+    /// The response bound of an event with these costs, in steps: the most from its arrival to its commit, where nothing of its
+    /// own or a higher priority is about. Takes no memory.
+    pub fn response(&self, costs: &Costs) -> u64
+        ensures { (p : ProgramTree) → (event : List ℕ) → AreBounds p self.now → AreCosts p event costs.now → result ≡ response p event }
+    {
+        let off = self.off;
+        let body = costs.body;
+        3 * u64::from(off) + u64::from(body)
+    }
 }
 
 // What all events add to the words and to the steps until all has settled, and the most scratch of one.
