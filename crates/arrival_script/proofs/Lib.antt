@@ -4,9 +4,11 @@ pub mod Examples
 pub mod ListFacts
 pub mod NameFacts
 pub mod PinFacts
+pub mod PlayFacts
 pub mod PortFacts
 pub mod ReadFacts
 pub mod RunFacts
 pub mod SendFacts
 pub mod SourceFacts
 pub mod TraceFacts
+pub mod TraceLaws

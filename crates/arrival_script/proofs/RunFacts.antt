@@ -120,7 +120,7 @@ script-changes s is = change-low s.steps s.pins 0 (first s.pins) is.order is.pin
     first (p ∷ more) = omega arith
 
 -- What comes from outside at a step.
-outer-at : (s : Script) (k : ℕ) → k < s.steps → outer_of (outers_of s) k ≡ outer_at s k
+pub outer-at : (s : Script) (k : ℕ) → k < s.steps → outer_of (outers_of s) k ≡ outer_at s k
 outer-at s k h = get_or-map-range_with_len (outer_at s) 0 s.steps k k no_outer h (omega arith)
 
 pub running-none : (m : Map) (image : Image) (s : Script) (t : Tracer) (o : Option (List ℕ)) → IsScript s → chip_of t.chip ≡ power_on (start_of s) → memory_of t.chip ≡ program_of image

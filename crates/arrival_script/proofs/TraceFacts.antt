@@ -143,7 +143,7 @@ step-written m k step report chip w t0 t1 t2 t3 t4 t5 t6 e s v w1 w2 w3 w4 w5 w6
     six t a b i o p c t1 t2 t3 t4 t5 t6 w1 w2 w3 w4 w5 w6 = rw (w6, w5, w4, w3, w2, w1) (simp append_assoc)
 
 -- A line that is begun and ended with the states.
-states-written : (m : Map) (r : Registers) (last : List ℕ) → line (last ∷ state_fields m r) ≡ last ++ (flat_map (λ s. spaced (state_field r s)) m.states ++ codes "\n")
+pub states-written : (m : Map) (r : Registers) (last : List ℕ) → line (last ∷ state_fields m r) ≡ last ++ (flat_map (λ s. spaced (state_field r s)) m.states ++ codes "\n")
 states-written m r last = line-spaced last (state_fields m r) ∙ ap (λ fields. last ++ (fields ++ codes "\n")) (flat_map-map spaced (state_field r) m.states)
 
 pub commit-written : (m : Map) (k : ℕ) (r : Registers) (name t0 t1 t2 : List ℕ) → t1 ≡ t0 ++ (decimal k ++ (codes " commit " ++ name))

@@ -1,5 +1,6 @@
 pub mod Drafts
 pub mod Entries
+pub mod Playing
 pub mod Running
 pub mod Scripts
 pub mod Sends

@@ -10,12 +10,15 @@ mod drafts;
 mod entries;
 mod lines;
 mod marked_addresses;
+mod player;
 mod reader;
 mod scripts;
 mod sends;
 mod tracer;
 mod traces;
 
+pub use lines::end_with_states;
+pub use player::{Player, Seen};
 pub use reader::read_script;
 pub use scripts::{Arrival, Cause, Late, PinChange, Script, ScriptFault};
 pub use traces::{TraceFault, trace};

@@ -201,8 +201,9 @@ fn write_states(text: &mut String, regs: &Regs, states: &[MapState]) -> Result<(
     Ok(())
 }
 
-// The states, and the end of the line.
-fn end_with_states(text: &mut String, regs: &Regs, map: &Map) -> Result<(), AllocError>
+/// Adds the states of a map, each after a space as its name, `=` and its value in decimal, and the end of the line. An `Err` is out
+/// of memory.
+pub fn end_with_states(text: &mut String, regs: &Regs, map: &Map) -> Result<(), AllocError>
     requires { IsMap map.now }
     ensures { OnOk result (string_bytes text.new ≡ string_bytes text.old
         ++ (flat_map (λ s. spaced (state_field (registers_of regs.now) s)) map.now.states ++ codes "\n")) }

@@ -40,8 +40,8 @@ pub(crate) struct Tracer<'a> {
     text: String,
 }
 
-// The chip's start by a script.
-fn start_of(script: &Script) -> Start
+/// The chip's start by a script.
+pub(crate) fn start_of(script: &Script) -> Start
     ensures { result ≡ start_of script.now }
 {
     Start {
@@ -51,8 +51,8 @@ fn start_of(script: &Script) -> Start
     }
 }
 
-// The sources that arrive at a boundary, as a set, and the arrivals after it.
-fn next_arrivals(pending: &[Arrival], boundary: u32) -> (u16, &[Arrival])
+/// The sources that arrive at a boundary, as a set, and the arrivals after it.
+pub(crate) fn next_arrivals(pending: &[Arrival], boundary: u32) -> (u16, &[Arrival])
     requires { RiseFrom boundary pending.now }
     ensures set { set_of result.0 ≡ set_at pending.now boundary }
     ensures known { result.0 < 2048 }
@@ -69,8 +69,12 @@ fn next_arrivals(pending: &[Arrival], boundary: u32) -> (u16, &[Arrival])
     }
 }
 
-// Sets the pins that change at a boundary, and answers the changes after it.
-fn set_pins<'a>(chip: &mut Chip, changes: &'a [PinChange], boundary: u32) -> &'a [PinChange]
+/// Sets the pins that change at a boundary, and answers the changes after it.
+pub(crate) fn set_pins<'a>(
+    chip: &mut Chip,
+    changes: &'a [PinChange],
+    boundary: u32,
+) -> &'a [PinChange]
     requires { ChangeFrom boundary changes.now }
     ensures chip { chip_of chip.new ≡ with_changed_pins (pins_at changes.now boundary) (chip_of chip.old) }
     ensures memory { memory_of chip.new ≡ memory_of chip.old }
@@ -108,8 +112,8 @@ fn next_boundary(pending: &[Arrival], changes: &[PinChange], boundary: u32, end:
     end.min(arrival).min(change)
 }
 
-// Whether a requested interrupt is late at a boundary.
-fn is_late_at(late: Late, boundary: u32) -> bool
+/// Whether a requested interrupt is late at a boundary.
+pub(crate) fn is_late_at(late: Late, boundary: u32) -> bool
     ensures { result ≡ is_late_at late boundary }
 {
     match late {
