@@ -85,9 +85,11 @@ module _ (parts : Parts) (spread : Spread) (items : List Item) (its : IsCodeFor 
       written-is_firmware f laid m its.made its.spread_is (its.pages ∙ ap has_pages its.items_are) made.names laid_out mapped in
       let built : IsBuilt (program_in parts) (record { image = image_of laid; map = m }) = record {
         writable = written.writable;
+        means = written.means;
         rules = written.rules;
         firmware = written.firmware;
         scheduled = written.scheduled;
+        reported = written.reported;
         buildable = made.buildable;
       } in
       subst (λ (bytes : List Aside). IsBuilt (program_in parts) (record { image = record { words = laid.words; config = Some 0x3F3A; aside = bytes }; map = m })) (sym none) built

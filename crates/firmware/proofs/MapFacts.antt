@@ -4,7 +4,7 @@ use Rattle.std.proofs.lemmas.Bool.{cases_lt}
 use Rattle.std.proofs.lemmas.List.{get_or_append_left, get_or_push}
 use Rattle.std.proofs.lemmas.List.Recursion.{max_bounds, max_least, max_push}
 use Rattle.std.proofs.lemmas.Option.{get_or_from_slice_get, slice_get-get_or, slice_get_within}
-use Rattle.efrp_meaning.specs.Bounds.{greatest, settle_bound, state_bytes}
+use Rattle.efrp_meaning.specs.Bounds.{greatest, levels, settle_bound, state_bytes}
 use Rattle.pic_isa.specs.declared.sources.Source.{Source}
 use Rattle.map_file.specs.declared.maps.Map.{Map}
 use Rattle.bank_alloc.specs.Needs.{bytes_of}
@@ -107,14 +107,14 @@ module _ (parts : Parts) (made : AreMade parts) (cells : ℕ) (is : cells ≡ ma
   }
 
   -- And the map is made by it.
-  pub is_mapped : (spread : Spread) (source : ℕ → Source) (frames : List Frame) (laid : Laid) (m : Map) (marks : List ℕ) (words settle : ℕ)
-      → AreFrames (makings_of parts spread source) frames → marks ≡ laid.marks → words ≡ length laid.words → settle ≡ settle_bound (program_in parts)
-      → IsMapOf (program_in parts) (record { need = parts.places.now.need; frames = frames; cells = cells; pages = spread.pages }) (made_of marks words settle) m
+  pub is_mapped : (spread : Spread) (source : ℕ → Source) (frames : List Frame) (laid : Laid) (m : Map) (marks : List ℕ) (words depth settle : ℕ)
+      → AreFrames (makings_of parts spread source) frames → marks ≡ laid.marks → words ≡ length laid.words → depth ≡ levels (program_in parts) → settle ≡ settle_bound (program_in parts)
+      → IsMapOf (program_in parts) (record { need = parts.places.now.need; frames = frames; cells = cells; pages = spread.pages }) (made_of marks words depth settle) m
       → IsMapped (makings_of parts spread source) laid m
-  is_mapped spread source frames laid m marks words settle are marks_are words_are settles its =
+  is_mapped spread source frames laid m marks words depth settle are marks_are words_are depths settles its =
       let used : Used = record { need = parts.places.now.need; frames = frames; cells = cells; pages = spread.pages } in
       record {
         used = used;
         is_used = is_used spread source frames are;
-        is_map = subst (λ (made : Made). IsMapOf (program_in parts) used made m) (λ j. made_of (marks_are j) (words_are j) (settles j)) its;
+        is_map = subst (λ (made : Made). IsMapOf (program_in parts) used made m) (λ j. made_of (marks_are j) (words_are j) (depths j) (settles j)) its;
       }

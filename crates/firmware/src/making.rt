@@ -30,6 +30,7 @@ use page_layout::{CodeFault, Laid, layout};
 use priority_masks::Levels;
 use program_bounds::Bounds;
 use scratch_commit::Frame;
+use stack_bound::report_of;
 use std::alloc::{AllocError, Global};
 
 /// The configuration word: no code protection, no watchdog, a crystal (data sheet DS30292, "Configuration Word").
@@ -112,7 +113,8 @@ fn map_in(
     };
     let marks = laid.marks.as_slice();
     let words = laid.words.len() as u16;
-    map_of(alloc, &uses, marks, parts.levels, words, bounds.settle)
+    let report = report_of(parts.levels, bounds);
+    map_of(alloc, &uses, marks, words, report.depth, report.settle)
 }
 
 // The image and the map of a program that can be built, whose code turns out to have few enough words.

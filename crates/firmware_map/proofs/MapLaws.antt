@@ -142,7 +142,7 @@ output-rule (port ∷ ports) (o ∷ os) same =
     (omega (arith, small), output-rule ports os (cc))
 
 pub map-keeps-rules : (p : ProgramTree) (u : Used) (made : Made) (m : Map) → MapKeepsRules p u made m
-map-keeps-rules p u made m formed checked names deep fits placed is =
+map-keeps-rules p u made m formed checked names fits placed is =
     let good = no-fault-is-good p checked.names in
     let states = sym is.states in
     let few_states = few-states u.need 0 p.decls in
@@ -165,7 +165,7 @@ map-keeps-rules p u made m formed checked names deep fits placed is =
       sample_pairs = subst (AllDiffer pair) (sym is.samples) tt;
       ready = subst IsCode (sym is.ready) (fits.marks (mark Ready));
       ranges = is.ranges;
-      depth = (let same = is.depth in omega (arith, same, deep));
+      depth = (let same = is.depth in let few = fits.depth in omega (arith, same, few));
       ram = omega (arith, ram, bytes);
       words = (let same = is.words in let few = fits.words in omega (arith, same, few));
       settle = subst (λ n. n < 2 ^ 32) (sym is.settle) fits.settle;

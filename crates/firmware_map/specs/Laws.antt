@@ -6,7 +6,6 @@ use Rattle.text_parts.specs.Names.{is_name}
 use Rattle.frp_tree.specs.declared.syntax.Event.{Event}
 use Rattle.frp_tree.specs.declared.syntax.Setup.{Setup}
 use Rattle.frp_tree.specs.Tree.{DeclTree, OutputTree, ProgramTree}
-use Rattle.efrp_meaning.specs.Bounds.{levels}
 use Rattle.efrp_meaning.specs.Decls.{inputs_of, reactive_decls}
 use Rattle.efrp_types.specs.Laws.{IsWellFormed}
 use Rattle.efrp_types.specs.Numbers.{event_source}
@@ -81,16 +80,17 @@ pub record HasNames (p : ProgramTree) : Type 0 where
   pub events : AllByRecursion (λ (e : Event). IsTrue (is_name e.name)) p.events
   pub decls : AllByRecursion (λ (d : DeclTree). IsTrue (is_name d.name)) p.decls
 
--- What was made of the code fits a map: code addresses are below 2000h, and there are at most 8,192 words.
+-- What was made of the code fits a map: code addresses are below 2000h, there are at most 8,192 words, and the depth is at most 8.
 pub record FitsMap (made : Made) : Type 0 where
   pub marks : (m : ℕ) → made.marks m < 0x2000
   pub words : made.words ≤ 8192
+  pub depth : made.depth ≤ 8
   pub settle : made.settle < 2 ^ 32
 
--- The map of a program that passes the checks, with at most 8 levels, keeps the rules of maps.
+-- The map of a program that passes the checks keeps the rules of maps.
 abbrev pub MapKeepsRules : ProgramTree → Used → Made → Map → Type 0
 MapKeepsRules p u made m =
-    IsWellFormed p → IsChecked p → HasNames p → levels p ≤ 8 → FitsMap made → IsPlaced p u → IsMapOf p u made m → IsMap m
+    IsWellFormed p → IsChecked p → HasNames p → FitsMap made → IsPlaced p u → IsMapOf p u made m → IsMap m
 
 -- The source of the event with this number.
 abbrev pub HasSource : ProgramTree → ℕ → Source → Type 0

@@ -1,7 +1,7 @@
 -- The map of a program's firmware, field by field.
 use Rattle.std.specs.Prelude.{◌≡◌, ℕ, ◌≤◌, ◌&&◌, nat_lt, List, [], map, slice_get, get_or, Some}
 use Rattle.frp_tree.specs.Tree.{OutputTree, ProgramTree}
-use Rattle.efrp_meaning.specs.Bounds.{levels, state_bytes}
+use Rattle.efrp_meaning.specs.Bounds.{state_bytes}
 use Rattle.pic_isa.specs.Names.{port_at}
 use Rattle.map_file.specs.declared.maps.MapEvent.{MapEvent}
 use Rattle.map_file.specs.declared.maps.Map.{Map}
@@ -18,15 +18,17 @@ pub record HasCells (p : ProgramTree) (u : Used) : Type 0 where
   pub states : state_bytes p ≤ u.cells
   pub placed : u.cells ≤ bytes_of u.need
 
--- What has been made of the code: the address of each mark, how many words there are, and in how many steps it settles.
+-- What has been made of the code: the address of each mark, and how many words there are; and what is reported of it: how deep the
+-- return stack gets, and in how many steps all has settled.
 pub record Made : Type 0 where
   pub marks : ℕ → ℕ
   pub words : ℕ
+  pub depth : ℕ
   pub settle : ℕ
 
 -- The address of each mark by a list, and 0 past its end.
-abbrev pub made_of : (marks : List ℕ) → (words settle : ℕ) → Made
-made_of marks words settle = record { marks = λ m. get_or marks m 0; words = words; settle = settle }
+abbrev pub made_of : (marks : List ℕ) → (words depth settle : ℕ) → Made
+made_of marks words depth settle = record { marks = λ m. get_or marks m 0; words = words; depth = depth; settle = settle }
 
 -- The events are the program's in declaration order, and each opens and commits at its marks.
 pub record AreEvents (p : ProgramTree) (marks : ℕ → ℕ) (events : List MapEvent) : Type 0 where
@@ -47,7 +49,7 @@ pub record IsMapOf (p : ProgramTree) (u : Used) (made : Made) (m : Map) : Type 0
   pub ready : m.ready ≡ made.marks (mark Ready)
   pub ranges : RangesRise 0 m.regs
   pub listed : (a : ℕ) → is_listed m a ≡ (nat_lt a 512 && is_written p u a)
-  pub depth : m.depth ≡ levels p
+  pub depth : m.depth ≡ made.depth
   pub ram : m.ram ≡ count_below 512 (λ a. is_listed m a && is_banked a)
   pub words : m.words ≡ made.words
   pub settle : m.settle ≡ made.settle

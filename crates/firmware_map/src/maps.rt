@@ -3,7 +3,6 @@ ghost use Rattle.std.specs.Prelude.{◌≡◌, ◌+◌, ◌≤◌, ◌++◌, ◌
 ghost use Rattle.frp_tree.specs.Tree.{behaviour_of, decl_of};
 ghost use Rattle.efrp_meaning.specs.Bounds.{bytes_in};
 ghost use Rattle.bank_alloc.specs.Needs.{bytes_of};
-ghost use Rattle.priority_masks.specs.Levels.{AreLevelsOf};
 ghost use Rattle.expr_lower.specs.Nodes.{new_pair};
 ghost use Rattle.expr_lower.specs.Numbered.{state_cells};
 ghost use Rattle.expr_lower.specs.Places.{is_wide};
@@ -17,7 +16,6 @@ use frp_tree::{Behaviour, Decl, List, Ty};
 use glue_parts::marks::{READY, committing, opening};
 use map_file::{Map, MapEvent, MapState};
 use pic_isa::port_named;
-use priority_masks::Levels;
 use std::alloc::{AllocError, Global};
 
 // The address of a mark.
@@ -116,18 +114,17 @@ fn outputs(alloc: Global, uses: &Uses) -> Result<List<u8>, AllocError>
 }
 
 /// The map of a program's firmware. `marks` has the address of each mark at its place, in words, and 0 past its end counts for a
-/// mark; `levels` are the program's; the image has so many words, and has settled in so many steps. An `Err` is out of memory.
+/// mark. The image has so many words, the return stack gets so deep, and all has settled in so many steps. An `Err` is out of memory.
 pub fn map_of(
     alloc: Global,
     uses: &Uses,
     marks: &[u16],
-    levels: &Levels,
     words: u16,
+    depth: u8,
     settle: u32,
 ) -> Result<Map, AllocError>
     requires cells { HasCells (program_of uses.now) (used_by uses.now) }
-    requires levels { AreLevelsOf (program_of uses.now) levels.now }
-    ensures { IfOk result (IsMapOf (program_of uses.now) (used_by uses.now) (made_of marks.now words settle)) }
+    ensures { IfOk result (IsMapOf (program_of uses.now) (used_by uses.now) (made_of marks.now words depth settle)) }
 {
     Ok(Map {
         events: events(alloc, uses, marks)?,
@@ -136,7 +133,7 @@ pub fn map_of(
         samples: List::new(alloc),
         ready: address(marks, READY),
         regs: uses.ranges(alloc)?,
-        depth: levels.count(),
+        depth,
         ram: uses.banked_bytes(),
         words,
         settle,

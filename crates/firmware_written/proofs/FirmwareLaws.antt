@@ -1,7 +1,7 @@
 -- What is written of the image and the map is firmware for the program, and treats its events in time and in order.
 use Rattle.std.proofs.Common.{◌≡◌, ℕ, List, [], length, Option, None, Some, option_map, ap, arith, lit<, refl, subst, sym}
 use Rattle.std.proofs.lemmas.Option.{none-some}
-use Rattle.efrp_meaning.specs.Bounds.{settle_bound}
+use Rattle.efrp_meaning.specs.Bounds.{levels, settle_bound}
 use Rattle.efrp_meaning.specs.Meaning.{SerialRun, initial_state}
 use Rattle.efrp_types.proofs.GoodLaws.{passed-runs}
 use Rattle.frp_tree.specs.Tree.{ProgramTree}
@@ -70,7 +70,7 @@ module _ (f : Makings) (laid : Laid) (m : Map) (made : IsMade f) (spread : IsSpr
   image = image_of laid
 
   abbrev its : Made
-  its = made_of laid.marks (length laid.words) (settle_bound f.p)
+  its = made_of laid.marks (length laid.words) (levels f.p) (settle_bound f.p)
 
   makings : AreMakings f
   makings = is_making f made
@@ -79,7 +79,7 @@ module _ (f : Makings) (laid : Laid) (m : Map) (made : IsMade f) (spread : IsSpr
   writable = record { words = is.rise; config = lit< tt }
 
   rules : IsMap m
-  rules = map-keeps-rules f.p mapped.used its m made.written made.passes.checked named made.few (fits_map f made laid m mapped is) (used_placed f made laid m mapped) mapped.is_map
+  rules = map-keeps-rules f.p mapped.used its m made.written made.passes.checked named (fits_map f made laid m mapped is) (used_placed f made laid m mapped) mapped.is_map
 
   names : Names f.p image m
   names = names_rightly f laid m made makings pages is mapped
@@ -139,7 +139,14 @@ module _ (f : Makings) (laid : Laid) (m : Map) (made : IsMade f) (spread : IsSpr
   }
 
   pub is_written : IsWritten f.p image m
-  is_written = record { writable = writable; rules = rules; firmware = is_firmware; scheduled = is_scheduled }
+  is_written = record {
+    writable = writable;
+    means = written_means_image image writable refl;
+    rules = rules;
+    firmware = is_firmware;
+    scheduled = is_scheduled;
+    reported = record { depth = mapped.is_map.depth; settle = mapped.is_map.settle };
+  }
 
 pub written-is_firmware : (f : Makings) (laid : Laid) (m : Map) → WrittenIsFirmware f laid m
 written-is_firmware f laid m made spread pages named is mapped = is_written f laid m made spread pages named is mapped

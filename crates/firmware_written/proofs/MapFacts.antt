@@ -2,7 +2,7 @@
 use Rattle.std.proofs.Common.{◌≡◌, ℕ, ◌%◌, ◌<◌, ◌≤◌, true, length, ap, arith, subst, sym, ◌∙◌}
 use Rattle.std.specs.Prelude.{◌&&◌, slice_get, Some}
 use Rattle.std.proofs.lemmas.Option.{same_Some, slice_get_within}
-use Rattle.efrp_meaning.specs.Bounds.{ram_bound, settle_bound}
+use Rattle.efrp_meaning.specs.Bounds.{levels, ram_bound, settle_bound}
 use Rattle.map_file.specs.declared.maps.Map.{Map}
 use Rattle.pic_machine.specs.Run.{word_at}
 use Rattle.bank_alloc.specs.declared.needs.Needs.{Needs}
@@ -77,7 +77,7 @@ module _ (f : Makings) (made : IsMade f) (laid : Laid) (m : Map) (mapped : IsMap
   used_placed = placed f made mapped.used mapped.is_used
 
   lists : Lists f.p u m
-  lists = map-lists-written f.p u (made_of laid.marks (length laid.words) (settle_bound f.p)) m used_placed mapped.is_map
+  lists = map-lists-written f.p u (made_of laid.marks (length laid.words) (levels f.p) (settle_bound f.p)) m used_placed mapped.is_map
 
   cell-listed : (cell : ℕ) → cell < u.cells → is_listed m (address_of f.need cell) ≡ true
   cell-listed cell below = subst (λ (need : Needs). is_listed m (address_of need cell) ≡ true) mapped.is_used.need (lists.cells cell below)
@@ -115,14 +115,15 @@ module _ (f : Makings) (made : IsMade f) (laid : Laid) (m : Map) (mapped : IsMap
 
   pub few_bytes : m.ram ≤ ram_bound f.p
   few_bytes =
-      let few = map-reports-few f.p u (made_of laid.marks (length laid.words) (settle_bound f.p)) m used_placed mapped.is_map in
+      let few = map-reports-few f.p u (made_of laid.marks (length laid.words) (levels f.p) (settle_bound f.p)) m used_placed mapped.is_map in
       let bytes = bytes-bound f made in
       let same = ap bytes_of mapped.is_used.need in
       omega (arith, few, bytes, same)
 
-  pub fits_map : IsLaidOut f laid → FitsMap (made_of laid.marks (length laid.words) (settle_bound f.p))
+  pub fits_map : IsLaidOut f laid → FitsMap (made_of laid.marks (length laid.words) (levels f.p) (settle_bound f.p))
   fits_map is = record {
     marks = marks-are_addresses (has_pages (items_of f)) (word_at laid.words) (places laid.marks) (items_of f) 0 (length laid.words % 8192) (omega arith) is.stands is.absent;
     words = is.few;
+    depth = made.few;
     settle = settle-few f.p made.written;
   }

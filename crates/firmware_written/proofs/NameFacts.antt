@@ -4,7 +4,7 @@ use Rattle.std.specs.Prelude.{slice_get, IsTrue, Some}
 use Rattle.std.specs.List.{AllByRecursion, flat_map, list_any}
 use Rattle.std.proofs.lemmas.List.{length-map}
 use Rattle.std.proofs.lemmas.Option.{slice_get_within}
-use Rattle.efrp_meaning.specs.Bounds.{settle_bound}
+use Rattle.efrp_meaning.specs.Bounds.{levels, settle_bound}
 use Rattle.hex_file.specs.declared.images.Word.{Word}
 use Rattle.pic_machine.specs.Run.{word_at}
 use Rattle.map_file.specs.declared.maps.MapEvent.{MapEvent}
@@ -128,7 +128,7 @@ module _ (f : Makings) (laid : Laid) (m : Map) (made : IsMade f) (makings : AreM
 
   pub names_rightly : Names f.p (image_of laid) m
   names_rightly =
-      let items = map-names-items f.p mapped.used (made_of laid.marks (length laid.words) (settle_bound f.p)) m made.no_inputs (used_placed f made laid m mapped) mapped.is_map in
+      let items = map-names-items f.p mapped.used (made_of laid.marks (length laid.words) (levels f.p) (settle_bound f.p)) m made.no_inputs (used_placed f made laid m mapped) mapped.is_map in
       let none = sym mapped.is_map.samples in
       let ready = ready_is in
       let below = ready_inside f laid makings pages is in

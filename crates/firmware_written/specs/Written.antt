@@ -1,8 +1,9 @@
 -- What is made of a program's firmware: its code laid out, the image and the map; and what is promised of what is written of them.
 use Rattle.std.specs.Prelude.{◌≡◌, ℕ, ◌%◌, ◌<◌, ◌≤◌, [], length, slice_get, Some}
 use Rattle.frp_tree.specs.Tree.{ProgramTree}
-use Rattle.efrp_meaning.specs.Bounds.{settle_bound, state_bytes}
+use Rattle.efrp_meaning.specs.Bounds.{levels, settle_bound, state_bytes}
 use Rattle.hex_file.specs.declared.images.Image.{Image}
+use Rattle.hex_file.specs.ImageOf.{IsImageOf}
 use Rattle.hex_file.specs.Written.{IsWritable, RisesFrom, written}
 use Rattle.pic_machine.specs.Run.{word_at}
 use Rattle.map_file.specs.declared.maps.Map.{Map}
@@ -18,6 +19,7 @@ use Rattle.page_layout.specs.Words.{FollowFrom}
 use Rattle.scratch_commit.specs.Plans.{frame_in}
 use Rattle.firmware_promises.specs.Firmware.{IsFirmware}
 use Rattle.core_steps.specs.Scheduled.{IsScheduled}
+use Rattle.stack_bound.specs.Reports.{IsReported}
 use Rattle.firmware_map.specs.Laws.{HasNames}
 use Rattle.firmware_map.specs.Maps.{IsMapOf, made_of}
 use Rattle.firmware_map.specs.Written.{Used}
@@ -47,22 +49,25 @@ pub record IsUsedBy (f : Makings) (u : Used) : Type 0 where
   pub frames : (event : ℕ) → event < length f.p.events → slice_get u.frames event ≡ Some (frame_in (plan_in f event))
 
 -- The map is that of the program by the code that is laid out: with the addresses of its marks and the number of its words, and the
--- program's bound on the steps until all has settled.
+-- program's levels and bound on the steps until all has settled.
 pub record IsMapped (f : Makings) (laid : Laid) (m : Map) : Type 0 where
   pub used : Used
   pub is_used : IsUsedBy f used
-  pub is_map : IsMapOf f.p used (made_of laid.marks (length laid.words) (settle_bound f.p)) m
+  pub is_map : IsMapOf f.p used (made_of laid.marks (length laid.words) (levels f.p) (settle_bound f.p)) m
 
 -- The image of code that is laid out: its words, the configuration word 3F3Ah, and no other bytes.
 abbrev pub image_of : Laid → Image
 image_of laid = record { words = laid.words; config = Some 0x3F3A; aside = [] }
 
--- An image and a map can be written, and their bytes are firmware for the program and treat its events in time and in order.
+-- An image and a map can be written, and their bytes mean them, are firmware for the program and treat its events in time and in
+-- order.
 pub record IsWritten (p : ProgramTree) (image : Image) (m : Map) : Type 0 where
   pub writable : IsWritable image
+  pub means : IsImageOf (written image) image
   pub rules : IsMap m
   pub firmware : IsFirmware p (written image) (map_text m)
   pub scheduled : IsScheduled p (written image) (map_text m)
+  pub reported : IsReported p m
 
 -- So are those of firmware whose pieces each do their own, whose code is laid out, and whose map is made by it.
 abbrev pub WrittenIsFirmware : Makings → Laid → Map → Type 0

@@ -71,7 +71,7 @@ fn map_with(alloc: Global, c: &Checked, pages: bool) -> Result<Map, Fail> {
         cells: CELLS,
         pages,
     };
-    Ok(map_of(alloc, &uses, &marks(), &levels, 1234, 56789)?)
+    Ok(map_of(alloc, &uses, &marks(), 1234, levels.count(), 56789)?)
 }
 
 fn map_of_lamp(alloc: Global, pages: bool) -> Result<Map, Fail> {

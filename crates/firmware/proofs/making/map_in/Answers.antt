@@ -15,13 +15,15 @@ use Rattle.firmware.proofs.making.map_in.Goals as goal
 pub frames-requires : goal.frames-requires
 frames-requires c = are_parts c.args.parts.now c.requires.parts
 
-pub map_of-requires-clause-cells : goal.map_of-requires-clause-cells
-map_of-requires-clause-cells c =
+pub map_of-requires : goal.map_of-requires
+map_of-requires c =
     let parts = c.args.parts.now in
     let cells = c.most_cells.ensures ∙ ap (λ n. max n (cells_of parts.works.now)) c.requires.bounds.states in
     record {
-      states = states_within parts c.requires.parts c.most_cells.result cells;
-      placed = cells_within parts c.requires.parts c.most_cells.result cells;
+      cells = record {
+        states = states_within parts c.requires.parts c.most_cells.result cells;
+        placed = cells_within parts c.requires.parts c.most_cells.result cells;
+      };
     }
 
 pub returns : goal.returns
@@ -30,10 +32,11 @@ returns c =
     let cells = c.most_cells.ensures ∙ ap (λ n. max n (cells_of parts.works.now)) c.requires.bounds.states in
     let frames = c.as_slice.result.now in
     let used : Used = record { need = parts.places.now.need; frames = frames; cells = c.most_cells.result; pages = c.args.spread.pages } in
-    IfOk-weaker c.map_of.result (IsMapOf (program_in parts) used (made_of c.as_slice-marks.result.now c.len-words.result c.args.bounds.now.settle))
+    IfOk-weaker c.map_of.result (IsMapOf (program_in parts) used (made_of c.as_slice-marks.result.now c.len-words.result c.report_of-report.result.depth c.report_of-report.result.settle))
     (λ m. (source : ℕ → Source) → IsMapped (makings_of parts c.args.spread source) c.args.laid.now m)
     (λ m its source.
     let are = subst (AreFrames (makings_of parts c.args.spread source)) (sym c.as_slice.ensures.value) (c.in_ok-frames.ensures source) in
     is_mapped parts c.requires.parts c.most_cells.result cells c.args.spread source frames c.args.laid.now m
-    c.as_slice-marks.result.now c.len-words.result c.args.bounds.now.settle are c.as_slice-marks.ensures c.len-words.ensures c.requires.bounds.settle its)
+    c.as_slice-marks.result.now c.len-words.result c.report_of-report.result.depth c.report_of-report.result.settle are c.as_slice-marks.ensures c.len-words.ensures
+    (c.report_of-report.ensures.depth (program_in parts) c.requires.parts.levels) (c.report_of-report.ensures.settle (program_in parts) c.requires.bounds) its)
     c.map_of.ensures
