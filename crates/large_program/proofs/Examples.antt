@@ -1,0 +1,2 @@
+-- Draws, definitions and arrivals of single numbers, computed.
+pub mod Draws

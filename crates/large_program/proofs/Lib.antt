@@ -1,0 +1,9 @@
+pub mod DrawLaws
+pub mod Examples
+pub mod FitFacts
+pub mod LargeLaws
+pub mod PassFacts
+pub mod PrintFacts
+pub mod ProgramFacts
+pub mod RiseFacts
+pub mod SpelledFacts

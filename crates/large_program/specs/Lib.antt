@@ -1,0 +1,4 @@
+pub mod Arrivals
+pub mod Draws
+pub mod LargePrograms
+pub mod Laws
