@@ -3,10 +3,10 @@ use Rattle.std.proofs.Common.{◌≡◌, ℕ, List, Option, Result, Ok, Err, Str
 use Rattle.std.specs.declared.alloc.Global.{Global}
 use Rattle.edge_io.specs.Files.{FilesSeen, KeepsFiles}
 use Rattle.edge_io.specs.Sinks.{SinkSeen}
-use Rattle.frp_tool.specs.declared.halts.Halt.{Halt}
-use Rattle.frp_tool.specs.declared.halts.Halt.TheVariants.{Said, PutFailed, Memory}
-use Rattle.frp_tool.specs.Outsides.{Outside}
-use Rattle.frp_tool.specs.Endings.{Ends, Finishes}
+use Rattle.command_parts.specs.declared.halts.Halt.{Halt}
+use Rattle.command_parts.specs.declared.halts.Halt.TheVariants.{Said, PutFailed, Memory}
+use Rattle.command_parts.specs.Outsides.{Outside}
+use Rattle.command_parts.specs.Endings.{Ends, Finishes}
 use Rattle.frp_tool.specs.Checks.{Bad, Good, CheckWorks, Checks}
 
 -- What is made of the work of a `check` ends it.

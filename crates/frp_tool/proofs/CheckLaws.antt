@@ -8,12 +8,13 @@ use Rattle.frp_tree.specs.Tree.{ProgramTree}
 use Rattle.frp_tree.specs.Grammar.{Spells}
 use Rattle.efrp_types.specs.Passes.{Passes}
 use Rattle.checked_source.specs.Readings.{Reading, Reads}
-use Rattle.frp_tool.specs.Outsides.{Outside}
-use Rattle.frp_tool.specs.Reads.{TooLong, unread_line}
-use Rattle.frp_tool.specs.Endings.{Ends, DueOrYielded}
-use Rattle.frp_tool.specs.SourceTexts.{IsRefused, refusal_line, SourceRefuses, SourceTellsLong, SourceTells}
+use Rattle.command_parts.specs.Outsides.{Outside}
+use Rattle.command_parts.specs.Reads.{TooLong, unread_line}
+use Rattle.command_parts.specs.Endings.{Ends, DueOrYielded}
+use Rattle.command_parts.specs.Lines.{IsRefused, refusal_line}
+use Rattle.frp_tool.specs.SourceTexts.{SourceRefuses, SourceTellsLong, SourceTells}
 use Rattle.frp_tool.specs.Checks.{CheckVerdict, Bad, Good, check_status, check_text, CheckCause, Checks, CheckDone, CheckCompletes, CheckPromises}
-use Rattle.frp_tool.proofs.EndingFacts.{ends_as, line_due, line_settled}
+use Rattle.command_parts.proofs.EndingLaws.{ends_as, line_due, line_settled}
 use Rattle.frp_tool.proofs.SourceLaws.{not_source, source_one, source_three, source_four, not_held, not_held_due, long_due, long_gives, refusal_due, refused_gives, no_source_fault}
 
 module _ (source : List ℕ) (before after : Outside) (status : ℕ) where

@@ -4,10 +4,10 @@ use Rattle.std.specs.declared.alloc.Global.{Global}
 use Rattle.edge_io.specs.Files.{FilesSeen, SameFiles, SameOthers, Replaces, BothTold, KeepsFiles}
 use Rattle.edge_io.specs.Sinks.{SinkSeen}
 use Rattle.map_file.specs.MapText.{map_text}
-use Rattle.frp_tool.specs.declared.halts.Halt.{Halt}
-use Rattle.frp_tool.specs.declared.halts.Halt.TheVariants.{Said, PutFailed, Memory}
-use Rattle.frp_tool.specs.Outsides.{Outside}
-use Rattle.frp_tool.specs.Endings.{Ends, Gives, Finishes}
+use Rattle.command_parts.specs.declared.halts.Halt.{Halt}
+use Rattle.command_parts.specs.declared.halts.Halt.TheVariants.{Said, PutFailed, Memory}
+use Rattle.command_parts.specs.Outsides.{Outside}
+use Rattle.command_parts.specs.Endings.{Ends, Gives, Finishes}
 use Rattle.frp_tree.specs.Tree.{ProgramTree}
 use Rattle.firmware.specs.Builds.{IsBuildFault}
 use Rattle.firmware.specs.declared.faults.BuildFault.{BuildFault}
@@ -16,7 +16,7 @@ use Rattle.frp_tool.specs.Lines.{build_line}
 use Rattle.frp_tool.specs.SourceTexts.{SourceGives, SourceCause, source_status, source_line}
 use Rattle.frp_tool.specs.Writes.{Stores}
 use Rattle.frp_tool.specs.Compiles.{CompileRequest, Firmware, CompileVerdict, IsCompiled, CompileComes, CompileLeft, NoProgram, Unbuilt, HexFailed, MapFailed, Done, compile_status, compile_line, CompileWorks, Compiles}
-use Rattle.frp_tool.proofs.ToldFacts.{chain, keeps_trans}
+use Rattle.command_parts.proofs.ToldLaws.{chain, keeps_trans}
 
 -- The program wasn't read.
 pub unread_works : {A : Type 0} (Good : A → Type 0) (r : CompileRequest) (a b : FilesSeen) (e : Halt) → KeepsFiles a b → Gives Good (SourceCause r.source a b) source_status (source_line r.source) (Err e) → CompileWorks r a b (Err e)

@@ -12,18 +12,19 @@ use Rattle.firmware.specs.Builds.{HasCode, IsBuildable, IsBuildFault}
 use Rattle.firmware.specs.declared.faults.BuildFault.{BuildFault}
 use Rattle.firmware.specs.declared.faults.BuildFault.TheVariants.{Form, Stack, Ram, Code, Memory}
 use Rattle.checked_source.specs.Readings.{Reading, Reads}
-use Rattle.frp_tool.specs.Outsides.{Outside}
-use Rattle.frp_tool.specs.Reads.{TooLong, unread_line}
-use Rattle.frp_tool.specs.Endings.{Ends, DueOrYielded}
-use Rattle.frp_tool.specs.SourceTexts.{IsRefused, refusal_line, SourceTellsLong, SourceTells}
+use Rattle.command_parts.specs.Outsides.{Outside}
+use Rattle.command_parts.specs.Reads.{TooLong, unread_line}
+use Rattle.command_parts.specs.Endings.{Ends, DueOrYielded}
+use Rattle.command_parts.specs.Lines.{IsRefused, refusal_line}
+use Rattle.frp_tool.specs.SourceTexts.{SourceTellsLong, SourceTells}
 use Rattle.frp_tool.specs.Compiles.{CompileRequest, CompileVerdict, IsCompiled, NoProgram, Unbuilt, HexFailed, MapFailed, Done, compile_status, compile_line, CompileCause, CompileLeft, CompileCut, OthersAsBefore, Compiles, CompileDone, CompileRefuses, BuildTells, CompileCompletes, CompilePromises}
-use Rattle.frp_tool.proofs.ToldFacts.{both_map}
-use Rattle.frp_tool.proofs.EndingFacts.{ends_as, line_due, line_settled}
+use Rattle.command_parts.proofs.ToldLaws.{both_map}
+use Rattle.command_parts.proofs.EndingLaws.{ends_as, line_due, line_settled}
 use Rattle.frp_tool.specs.Lines.{build_line}
 use Rattle.frp_tool.proofs.SourceLaws.{not_source, source_one, source_three, source_four, not_held, not_held_due, long_due, long_gives, refusal_due, refused_gives, given_is, no_source_fault}
 
 -- A program that has code and fits the chip has no fault.
-no_build_fault : (p : ProgramTree) → HasCode p → Fits p → (fault : BuildFault) → IsBuildFault p fault → ⊥
+pub no_build_fault : (p : ProgramTree) → HasCode p → Fits p → (fault : BuildFault) → IsBuildFault p fault → ⊥
 no_build_fault p code fits Form has = has code
 no_build_fault p code fits (Stack n) (has_code, is, many) = omega (arith, fits.levels_fit, is, many)
 no_build_fault p code fits (Ram n) (has_code, few, is, many) = omega (arith, fits.ram_fits, is, many)
@@ -139,7 +140,7 @@ module _ (r : CompileRequest) (before after : Outside) (status : ℕ) where
   done_by (Unbuilt p fault) (cause, left, is, put) e = absurd (omega (arith, is, e))
   done_by (HexFailed c) (cause, left, is, put) e = absurd (omega (arith, is, e))
   done_by (MapFailed f) (cause, left, is, put) e = absurd (omega (arith, is, e))
-  done_by (Done f) (cause, left, is, put) e = (f.program, cause.0, f.hex, f.map, f.is_firmware, f.is_scheduled, left, put)
+  done_by (Done f) (cause, left, is, put) e = (f.program, cause.0, f.hex, f.map, f.is_firmware, f.is_scheduled, f.is_reported, left, put)
 
   -- Where the source isn't held, that is the verdict.
   not_held_is_due : (held : Held) → before.files.told ≡ Some held → held r.source ≡ None → (v : CompileVerdict) → CompileCause r before.files after.files v → DueOrYielded (compile_status v) status → DueOrYielded 3 status

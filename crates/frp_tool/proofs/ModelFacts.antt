@@ -10,14 +10,14 @@ use Rattle.event_file.specs.declared.occurrences.Occurrence.{Occurrence as Found
 use Rattle.event_file.specs.declared.occurrences.EventsFault.{EventsFault}
 use Rattle.event_file.specs.Model.{model_text}
 use Rattle.event_file.specs.Reads.{occurrence_of, ReadsEvents}
-use Rattle.frp_tool.specs.declared.halts.Halt.{Halt}
-use Rattle.frp_tool.specs.declared.halts.Halt.TheVariants.{Said, PutFailed, Memory}
-use Rattle.frp_tool.specs.Outsides.{Outside}
-use Rattle.frp_tool.specs.Endings.{Ends, Gives, Finishes}
-use Rattle.frp_tool.specs.Reads.{unread_status, unread_line, IsUnread, IsInput}
-use Rattle.frp_tool.specs.SourceTexts.{IsRefused, refusal_line}
+use Rattle.command_parts.specs.declared.halts.Halt.{Halt}
+use Rattle.command_parts.specs.declared.halts.Halt.TheVariants.{Said, PutFailed, Memory}
+use Rattle.command_parts.specs.Outsides.{Outside}
+use Rattle.command_parts.specs.Endings.{Ends, Gives, Finishes}
+use Rattle.command_parts.specs.Reads.{unread_status, unread_line, IsUnread, IsInput}
+use Rattle.command_parts.specs.Lines.{IsRefused, refusal_line}
 use Rattle.frp_tool.specs.Models.{ModelRequest, ModelTexts, AreModelTexts, ModelFault, FileUnread, Refused, Unknown, TooMany, model_fault_status, model_fault_line, IsFirstModelFault, ModelFaultCause, IsModel, NoModel, Modelled, ModelWorks, Models}
-use Rattle.frp_tool.proofs.RunStepFacts.{halts, first_unread, second_unread}
+use Rattle.run_inputs.proofs.RunStepLaws.{halts, first_unread, second_unread}
 
 -- The first or the second file wasn't read.
 pub source_unread : {A : Type 0} (Good : A → Type 0) (r : ModelRequest) (a b : FilesSeen) (e : Halt) → Gives (IsInput r.source a) (IsUnread r.source a b) unread_status (unread_line r.source) (Err e)

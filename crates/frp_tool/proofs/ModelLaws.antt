@@ -7,13 +7,13 @@ use Rattle.edge_io.specs.Counts.{Rose}
 use Rattle.frp_tree.specs.Tree.{ProgramTree}
 use Rattle.checked_source.specs.Readings.{Passing, Reads, IsRead}
 use Rattle.event_file.specs.Events.{first_unknown, told_events}
-use Rattle.frp_tool.specs.Outsides.{Outside}
-use Rattle.frp_tool.specs.Endings.{Ends, DueOrYielded}
-use Rattle.frp_tool.specs.Reads.{Unread, NotHeld, NotRead, TooLong, IsReadable, IsLong, IsNext}
-use Rattle.frp_tool.specs.SourceTexts.{refusal_line}
+use Rattle.command_parts.specs.Outsides.{Outside}
+use Rattle.command_parts.specs.Endings.{Ends, DueOrYielded}
+use Rattle.command_parts.specs.Reads.{Unread, NotHeld, NotRead, TooLong, IsReadable, IsLong, IsNext}
+use Rattle.command_parts.specs.Lines.{refusal_line}
 use Rattle.frp_tool.specs.Models.{ModelRequest, names_of, ModelTexts, AreModelTexts, ModelFault, FileUnread, Refused, Unknown, TooMany, model_fault_status, model_fault_line, IsFirstModelFault, ModelVerdict, NoModel, Modelled, model_status, model_put, ModelCause, Models, ModelDone, ModelRefuses, ModelTells, ModelCompletes, ModelPromises}
-use Rattle.frp_tool.proofs.ToldFacts.{if_both, at_told}
-use Rattle.frp_tool.proofs.EndingFacts.{ends_as, line_due, line_settled}
+use Rattle.command_parts.proofs.ToldLaws.{if_both, at_told}
+use Rattle.command_parts.proofs.EndingLaws.{ends_as, line_due, line_settled}
 use Rattle.frp_tool.proofs.NextFacts.{IsHeldInput, named, one_next, not_readable, long_readable, not_long}
 use Rattle.frp_tool.proofs.SourceLaws.{fits}
 

@@ -3,7 +3,7 @@ use Rattle.std.proofs.Common.{◌≡◌, ℕ, ◌<◌, ◌≤◌, List, [], ◌�
 use Rattle.std.specs.List.{AllByRecursion}
 use Rattle.edge_io.specs.declared.outside.TheConstants.{LONGEST_FILE}
 use Rattle.edge_io.specs.Files.{Held}
-use Rattle.frp_tool.specs.Reads.{IsReadable, IsLong}
+use Rattle.command_parts.specs.Reads.{IsReadable, IsLong}
 
 -- The bytes of a file that is held, and is short enough to be read.
 abbrev pub IsHeldInput : List ℕ → Held → List ℕ → Type 0

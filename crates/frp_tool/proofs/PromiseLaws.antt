@@ -1,23 +1,27 @@
 -- What `efrp` promises, from how each command ends.
-use Rattle.std.proofs.Common.{◌≡◌, ℕ, ◌≤◌, false, List, Option, Some, None, Result, Ok, Err, String, string_bytes, ◌⊎◌, inl, inr, arith, refl, subst}
+use Rattle.std.proofs.Common.{◌≡◌, ℕ, ◌≤◌, List, Option, Some, None, Result, Ok, Err, String, string_bytes, ◌⊎◌, inl, inr, arith, refl, subst}
 use Rattle.std.specs.declared.alloc.Global.{Global}
 use Rattle.edge_io.specs.Counts.{Rose}
 use Rattle.edge_io.specs.Files.{FilesSeen, KeepsFiles}
 use Rattle.edge_io.specs.Sinks.{SinkSeen}
-use Rattle.frp_tool.specs.declared.halts.Halt.{Halt}
-use Rattle.frp_tool.specs.declared.halts.Halt.TheVariants.{Said, PutFailed, Memory}
-use Rattle.frp_tool.specs.Endings.{Ends, Explained, Finishes}
-use Rattle.frp_tool.proofs.ToldFacts.{keeps_refl}
-use Rattle.frp_tool.proofs.EndingFacts.{line_due, line_settled}
+use Rattle.command_parts.specs.declared.halts.Halt.{Halt}
+use Rattle.command_parts.specs.declared.halts.Halt.TheVariants.{Said, PutFailed, Memory}
+use Rattle.command_parts.specs.Endings.{Ends, Finishes}
+use Rattle.frp_tool.specs.Promises.{Explained}
+use Rattle.command_parts.proofs.ToldLaws.{keeps_refl}
+use Rattle.command_parts.proofs.EndingLaws.{line_due, line_settled}
 use Rattle.frp_tool.specs.declared.requests.Request.TheVariants.{Check, Compile, Run, Model, Big}
-use Rattle.frp_tool.specs.Outsides.{Outside}
+use Rattle.command_parts.specs.Outsides.{Outside}
 use Rattle.frp_tool.specs.Requests.{Named}
+use Rattle.frp_tool.specs.Bigs.{BigRequest, Bigs, BigWorks}
 use Rattle.frp_tool.specs.Checks.{Checks, CheckWorks}
 use Rattle.frp_tool.specs.Compiles.{CompileRequest, Compiles, CompileWorks}
 use Rattle.frp_tool.specs.Models.{ModelRequest, Models, ModelWorks}
-use Rattle.frp_tool.specs.RunFaults.{RunRequest}
+use Rattle.run_inputs.specs.RunFaults.{RunRequest}
 use Rattle.frp_tool.specs.Runs.{Runs, RunWorks}
-use Rattle.frp_tool.specs.Promises.{Explains, PromisesOf, is_built, Promises}
+use Rattle.frp_tool.specs.Promises.{Explains, PromisesOf, Promises}
+use Rattle.frp_tool.proofs.BigFacts.{big_ends}
+use Rattle.frp_tool.proofs.BigLaws.{big_promises, big_never, big_five}
 use Rattle.frp_tool.proofs.CheckLaws.{check_promises, check_not_two, check_four, check_five}
 use Rattle.frp_tool.proofs.CheckFacts.{check_ends}
 use Rattle.frp_tool.proofs.CompileLaws.{compile_promises, compile_not_two, compile_four, compile_five, compile_kept}
@@ -34,25 +38,25 @@ EndsSo (Some (Check source)) before after status = Checks source before after st
 EndsSo (Some (Compile s h m)) before after status = Compiles (record { source = s; hex = h; map = m }) before after status
 EndsSo (Some (Run h m s)) before after status = Runs (record { hex = h; map = m; script = s }) before after status
 EndsSo (Some (Model source events)) before after status = Models (record { source = source; events = events }) before after status
-EndsSo (Some (Big number hex map)) before after status = Explains before after status
+EndsSo (Some (Big n h m)) before after status = Bigs (record { number = n; hex = h; map = m }) before after status
 
 five_explained : (before after : Outside) (status : ℕ) → Explains before after status → status ≡ 5 → Rose before.files.write_faults after.files.write_faults ⊎ Rose before.out.put_faults after.out.put_faults
 five_explained before after status (keeps, inl h) e = absurd (omega (arith, h.0))
 five_explained before after status (keeps, inr (inl h)) e = inr h.1
 five_explained before after status (keeps, inr (inr h)) e = absurd (omega (arith, h.0))
 
-explained : (request : Option Named) (before after : Outside) (status : ℕ) → is_built request ≡ false → PromisesOf request before after status → Explains before after status → Promises request before after status
-explained request before after status unbuilt promised h = record {
-  command = promised;
+explained : (before after : Outside) (status : ℕ) → Explains before after status → Promises None before after status
+explained before after status h = record {
+  command = h;
   zero = λ e. absurd (omega (arith, e, (line_settled _ _ _ _ _ h.1 (omega (arith, e))).0));
-  two = ((λ e. unbuilt), λ e. line_due _ _ _ _ _ h.1);
+  two = ((λ e. refl), λ e. line_due _ _ _ _ _ h.1);
   four = λ e. absurd (omega (arith, e, (line_settled _ _ _ _ _ h.1 (omega (arith, e))).0));
   five = five_explained before after status h;
   files = λ some small. h.0;
 }
 
 pub promises : (request : Option Named) (before after : Outside) (status : ℕ) → EndsSo request before after status → Promises request before after status
-promises None before after status h = explained None before after status refl h h
+promises None before after status h = explained before after status h
 promises (Some (Check source)) before after status h = record {
   command = check_promises source before after status h;
   zero = λ e. refl;
@@ -91,7 +95,16 @@ promises (Some (Model source events)) before after status h =
       five = λ e. inr (model_five r before after status h e);
       files = λ some small. h.0;
     }
-promises (Some (Big number hex map)) before after status h = explained (Some (Big number hex map)) before after status refl h h
+promises (Some (Big n x m)) before after status h =
+    let r : BigRequest = record { number = n; hex = x; map = m } in
+    record {
+      command = big_promises r before after status h;
+      zero = λ e. refl;
+      two = ((λ e. absurd (big_never r before after status h (omega (arith, e)) (omega (arith, e)))), λ e. absurd cc);
+      four = λ e. absurd (big_never r before after status h (omega (arith, e)) (omega (arith, e)));
+      five = big_five r before after status h;
+      files = λ some small. absurd (big_never r before after status h some small);
+    }
 
 -- What is made of the usage line.
 pub explain_ends : (before : Outside) (out : SinkSeen) (status : ℕ) (work : Result (Option (String Global)) Halt) → Explained work → Finishes before.out out work status → Explains before (record { files = before.files; out = out }) status
@@ -123,8 +136,8 @@ module _ (request : Option Named) (before : Outside) (out : SinkSeen) (status : 
   pub model_keeps : (s e : List ℕ) (files : FilesSeen) → Some (Model s e) ≡ request → KeepsFiles before.files files → ModelWorks (record { source = s; events = e }) before.files files work → Promises request before (left files) status
   model_keeps s e files is keeps works = of_request (Some (Model s e)) files is (model_ends (record { source = s; events = e }) before files out status keeps work works ends)
 
-  pub big_keeps : (n : ℕ) (h m : List ℕ) → Some (Big n h m) ≡ request → Explained work → Promises request before (left before.files) status
-  big_keeps n h m is given = of_request (Some (Big n h m)) before.files is (explain_ends before out status work given ends)
+  pub big_keeps : (n : ℕ) (h m : List ℕ) (files : FilesSeen) → Some (Big n h m) ≡ request → BigWorks (record { number = n; hex = h; map = m }) before.files files work → Promises request before (left files) status
+  big_keeps n h m files is works = of_request (Some (Big n h m)) files is (big_ends (record { number = n; hex = h; map = m }) before files out status work works ends)
 
 pub run_keeps : (request : Option Named) (before mid : Outside) (out : SinkSeen) (status : ℕ) (work : Result (Option (String Global)) Halt) → Finishes mid.out out work status → (h m s : List ℕ) → Some (Run h m s) ≡ request
     → before.out.put_faults ≤ mid.out.put_faults → RunWorks (record { hex = h; map = m; script = s }) before mid work → Promises request before (record { files = mid.files; out = out }) status

@@ -4,19 +4,19 @@ use Rattle.std.proofs.lemmas.List.{append_assoc, append-nil}
 use Rattle.std.specs.declared.alloc.Global.{Global}
 use Rattle.edge_io.specs.Sinks.{SinkSeen, Appends, AppendsPrefix}
 use Rattle.edge_io.specs.Counts.{Rose}
-use Rattle.frp_tool.specs.declared.halts.Halt.{Halt}
-use Rattle.frp_tool.specs.declared.halts.Halt.TheVariants.{Said, PutFailed, Memory}
+use Rattle.command_parts.specs.declared.halts.Halt.{Halt}
+use Rattle.command_parts.specs.declared.halts.Halt.TheVariants.{Said, PutFailed, Memory}
 use Rattle.pic_machine.specs.declared.steps.Did.{Did}
 use Rattle.pic_machine.specs.declared.steps.Did.TheVariants.{Took, Ran, Stopped}
 use Rattle.pic_machine.specs.declared.steps.Why.{Why}
 use Rattle.pic_machine.specs.Dids.{is_stop}
 use Rattle.arrival_script.specs.Trace.{IsDue, lines_of, Traces}
 use Rattle.arrival_script.specs.declared.traces.TraceFault.TheVariants as fault
-use Rattle.frp_tool.specs.declared.inputs.Parts.{Parts}
-use Rattle.frp_tool.specs.Outsides.{Outside}
-use Rattle.frp_tool.specs.Endings.{Ends, Gives, Finishes}
-use Rattle.frp_tool.specs.RunLines.{stop_line}
-use Rattle.frp_tool.specs.RunFaults.{RunRequest, ArePartsOf, FaultCause, fault_status, fault_line}
+use Rattle.run_inputs.specs.declared.inputs.Parts.{Parts}
+use Rattle.command_parts.specs.Outsides.{Outside}
+use Rattle.command_parts.specs.Endings.{Ends, Gives, Finishes}
+use Rattle.run_inputs.specs.RunLines.{stop_line}
+use Rattle.run_inputs.specs.RunFaults.{RunRequest, ArePartsOf, FaultCause, fault_status, fault_line}
 use Rattle.frp_tool.specs.Runs.{RunVerdict, NoRun, Stops, Ended, run_status, run_text, log_of, whole_trace, RunEnds, RunEndsSo, RunExhausted, Runs, RunWorks, Traced, TraceCut}
 
 -- Prefixes of a text and of one that another follows.

@@ -10,14 +10,14 @@ use Rattle.hex_file.proofs.UniqueLaws.{no_image_of_fault}
 use Rattle.map_file.proofs.EntryRowLaws.{one_text}
 use Rattle.arrival_script.specs.declared.scripts.Script.{Script}
 use Rattle.arrival_script.specs.Scripts.{IsScriptOf}
-use Rattle.frp_tool.specs.declared.inputs.Inputs.{Inputs}
-use Rattle.frp_tool.specs.declared.inputs.Parts.{Parts}
-use Rattle.frp_tool.specs.Outsides.{Outside}
-use Rattle.frp_tool.specs.Endings.{DueOrYielded}
-use Rattle.frp_tool.specs.Reads.{NotHeld, NotRead, TooLong, IsReadable, IsLong, IsNext}
-use Rattle.frp_tool.specs.RunFaults.{RunRequest, names_of, AreInputs, AreParts, RunFault, FileUnread, BadHex, BadMap, BadScript, fault_status, IsFirstFault}
+use Rattle.run_inputs.specs.declared.inputs.Inputs.{Inputs}
+use Rattle.run_inputs.specs.declared.inputs.Parts.{Parts}
+use Rattle.command_parts.specs.Outsides.{Outside}
+use Rattle.command_parts.specs.Endings.{DueOrYielded}
+use Rattle.command_parts.specs.Reads.{NotHeld, NotRead, TooLong, IsReadable, IsLong, IsNext}
+use Rattle.run_inputs.specs.RunFaults.{RunRequest, names_of, AreInputs, AreParts, RunFault, FileUnread, BadHex, BadMap, BadScript, fault_status, IsFirstFault}
 use Rattle.frp_tool.specs.Runs.{RunVerdict, NoRun, Stops, Ended, run_status, run_text, RunCause, RunEnds, Runs, StopsAt, GoesToEnd, RunDone, RunRefuses, RunPromises}
-use Rattle.frp_tool.proofs.ToldFacts.{if_both, at_told}
+use Rattle.command_parts.proofs.ToldLaws.{if_both, at_told}
 use Rattle.frp_tool.proofs.NextFacts.{IsHeldInput, named, one_next, not_readable, long_readable, not_long}
 
 due : (before after : SinkSeen) (want : ℕ) (text : List ℕ) (status : ℕ) → RunEnds before after want text status → DueOrYielded want status

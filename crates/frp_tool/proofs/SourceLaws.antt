@@ -8,10 +8,11 @@ use Rattle.frp_tree.specs.Tree.{ProgramTree}
 use Rattle.frp_tree.specs.Grammar.{Spells}
 use Rattle.efrp_types.specs.Passes.{Passes}
 use Rattle.checked_source.specs.Readings.{Reading, Passing, Reads, IsRead}
-use Rattle.frp_tool.specs.Outsides.{Outside}
-use Rattle.frp_tool.specs.Reads.{NotHeld, NotRead, TooLong, unread_line}
-use Rattle.frp_tool.specs.SourceTexts.{IsRefused, refusal_line, OfSource, SourceGives, SourceFault, SourceUnread, Refused, source_status, source_line, SourceCause, SourceRefuses}
-use Rattle.frp_tool.proofs.ToldFacts.{if_map, at_told}
+use Rattle.command_parts.specs.Outsides.{Outside}
+use Rattle.command_parts.specs.Reads.{NotHeld, NotRead, TooLong, unread_line, OfSource}
+use Rattle.command_parts.specs.Lines.{IsRefused, refusal_line}
+use Rattle.frp_tool.specs.SourceTexts.{SourceGives, SourceFault, SourceUnread, Refused, source_status, source_line, SourceCause, SourceRefuses}
+use Rattle.command_parts.proofs.ToldLaws.{if_map, at_told}
 
 -- A text that spells a program isn't too long a file.
 pub short : (text : List ℕ) (p : ProgramTree) → Spells text p → LONGEST_FILE < length text → ⊥

@@ -6,8 +6,8 @@ use Rattle.causality.specs.declared.checked.Checked.{Checked}
 use Rattle.checked_source.specs.Readings.{Reading, Passing, IsRead}
 use Rattle.firmware_map.specs.Laws.{HasNames}
 use Rattle.firmware_map.proofs.SpelledLaws.{has_names}
-use Rattle.frp_tool.specs.declared.halts.Halt.{Halt}
-use Rattle.frp_tool.specs.Endings.{Gives}
+use Rattle.command_parts.specs.declared.halts.Halt.{Halt}
+use Rattle.command_parts.specs.Endings.{Gives}
 
 pub read_has_names : (text : List ℕ) (Bad : Reading → Type 0) (status : Reading → ℕ) (line : Reading → List ℕ) (answer : Result Checked Halt)
     → Gives (λ (c : Checked). IsRead text (Passing (program_tree_of c.typed.program))) Bad status line answer → IfOk answer (λ (c : Checked). HasNames (program_tree_of c.typed.program))

@@ -3,12 +3,13 @@ use Rattle.std.proofs.Common.{◌≡◌, ℕ, List, Result, Ok, Err, refl, subst
 use Rattle.edge_io.specs.Files.{FilesSeen}
 use Rattle.frp_tree.specs.Tree.{ProgramTree}
 use Rattle.checked_source.specs.Readings.{Reading, Passing, IsRead}
-use Rattle.frp_tool.specs.declared.halts.Halt.{Halt}
-use Rattle.frp_tool.specs.Endings.{Gives}
-use Rattle.frp_tool.specs.Reads.{unread_status, unread_line, IsUnread, IsInput}
-use Rattle.frp_tool.specs.SourceTexts.{IsRefused, refusal_line, SourceGives, SourceUnread, Refused, source_status, source_line, SourceCause}
-use Rattle.frp_tool.proofs.ToldFacts.{if_map}
-use Rattle.frp_tool.proofs.RunStepFacts.{halts}
+use Rattle.command_parts.specs.declared.halts.Halt.{Halt}
+use Rattle.command_parts.specs.Endings.{Gives}
+use Rattle.command_parts.specs.Reads.{unread_status, unread_line, IsUnread, IsInput}
+use Rattle.command_parts.specs.Lines.{IsRefused, refusal_line}
+use Rattle.frp_tool.specs.SourceTexts.{SourceGives, SourceUnread, Refused, source_status, source_line, SourceCause}
+use Rattle.command_parts.proofs.ToldLaws.{if_map}
+use Rattle.run_inputs.proofs.RunStepLaws.{halts}
 
 module _ (source : List ℕ) (a b : FilesSeen) where
   -- A source that wasn't read gives no program.

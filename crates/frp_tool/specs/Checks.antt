@@ -7,10 +7,10 @@ use Rattle.edge_io.specs.Counts.{Rose}
 use Rattle.frp_tree.specs.Tree.{ProgramTree}
 use Rattle.frp_tree.specs.Grammar.{Spells}
 use Rattle.efrp_types.specs.Passes.{Passes}
-use Rattle.frp_tool.specs.declared.halts.Halt.{Halt}
+use Rattle.command_parts.specs.declared.halts.Halt.{Halt}
 use Rattle.frp_tool.specs.Lines.{counts_line}
-use Rattle.frp_tool.specs.Outsides.{Outside}
-use Rattle.frp_tool.specs.Endings.{Ends, Gives}
+use Rattle.command_parts.specs.Outsides.{Outside}
+use Rattle.command_parts.specs.Endings.{Ends, Gives}
 use Rattle.frp_tool.specs.SourceTexts.{SourceGives, SourceFault, source_status, source_line, SourceCause, SourceRefuses, SourceTellsLong, SourceTells, SourceMisses}
 
 -- What a `check` comes to: the source gives no program, or a program that passes.

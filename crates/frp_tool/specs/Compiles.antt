@@ -8,6 +8,7 @@ use Rattle.map_file.specs.declared.maps.Map.{Map}
 use Rattle.map_file.specs.MapText.{map_text}
 use Rattle.firmware_promises.specs.Firmware.{IsFirmware}
 use Rattle.core_steps.specs.Scheduled.{IsScheduled}
+use Rattle.stack_bound.specs.Reports.{IsReported}
 use Rattle.frp_tree.specs.Tree.{ProgramTree}
 use Rattle.frp_tree.specs.Grammar.{Spells}
 use Rattle.efrp_meaning.specs.Bounds.{Fits}
@@ -15,11 +16,12 @@ use Rattle.efrp_types.specs.Passes.{Passes}
 use Rattle.firmware.specs.Builds.{HasCode, IsBuildable, IsBuildFault}
 use Rattle.firmware.specs.declared.faults.BuildFault.{BuildFault}
 use Rattle.firmware.specs.declared.faults.BuildFault.TheVariants.{Code}
-use Rattle.frp_tool.specs.declared.halts.Halt.{Halt}
-use Rattle.frp_tool.specs.declared.halts.Halt.TheVariants as halt
-use Rattle.frp_tool.specs.Lines.{named_line, build_line, summary}
-use Rattle.frp_tool.specs.Outsides.{Outside}
-use Rattle.frp_tool.specs.Endings.{Ends}
+use Rattle.command_parts.specs.declared.halts.Halt.{Halt}
+use Rattle.command_parts.specs.declared.halts.Halt.TheVariants as halt
+use Rattle.command_parts.specs.Lines.{named_line}
+use Rattle.frp_tool.specs.Lines.{build_line, summary}
+use Rattle.command_parts.specs.Outsides.{Outside}
+use Rattle.command_parts.specs.Endings.{Ends}
 use Rattle.frp_tool.specs.SourceTexts.{SourceGives, SourceFault, source_status, source_line, SourceCause, SourceRefuses, SourceTellsLong, SourceTells, SourceMisses}
 use Rattle.frp_tool.specs.Writes.{Has, SameButTwo}
 
@@ -30,13 +32,15 @@ pub record CompileRequest : Type 0 where
   pub map : List ℕ
 
 -- What `compile` makes of a program: the bytes of HEX, and a map, whose text is written to MAP. The bytes and the text are
--- firmware for the program, and react in time.
+-- firmware for the program, and react in time; and the map reports the program's levels as its depth and the program's bound on
+-- settling, nothing less.
 pub record Firmware : Type 0 where
   pub program : ProgramTree
   pub hex : List ℕ
   pub map : Map
   pub is_firmware : IsFirmware program hex (map_text map)
   pub is_scheduled : IsScheduled program hex (map_text map)
+  pub is_reported : IsReported program map
 
 -- What a `compile` comes to: the source gives no program; nothing is built of its program; HEX wasn't written; the map wasn't
 -- written; all was done.
@@ -121,11 +125,11 @@ Compiles r before after status =
     ⊎ ((v : CompileVerdict) × CompileCause r before.files after.files v × CompileLeft r before.files after.files v × Ends before.out after.out (compile_status v) (compile_line r v) status)
 
 -- With 0, where files and the bytes put are told, the source spells a program that passes the checks, and no other; HEX and MAP
--- hold bytes that are firmware for it and react in time, those of MAP being the text of a map; all other files are as before;
--- and the summary of that map was put.
+-- hold bytes that are firmware for it and react in time, those of MAP being the text of a map, which reports the program's levels
+-- and its bound on settling; all other files are as before; and the summary of that map was put.
 abbrev pub CompileDone : CompileRequest → Outside → Outside → Type 0
 CompileDone r before after = (p : ProgramTree) × SourceGives r.source before.files p
-    × (hex : List ℕ) × (m : Map) × IsFirmware p hex (map_text m) × IsScheduled p hex (map_text m)
+    × (hex : List ℕ) × (m : Map) × IsFirmware p hex (map_text m) × IsScheduled p hex (map_text m) × IsReported p m
     × BothTold before.files after.files (λ old new. Has new r.hex hex × Has new r.map (map_text m) × OthersAsBefore r old new)
     × Appends before.out.taken after.out.taken (summary m p)
 
@@ -165,7 +169,8 @@ pub record CompilePromises (r : CompileRequest) (before after : Outside) (status
   pub complete : CompileCompletes r before after status
 
 -- The bytes of HEX and MAP and the line that `compile` makes for a program that is built: firmware for it that reacts in time,
--- the second the text of a map, and the summary of that map.
+-- the second the text of a map, with its report, and the summary of that map.
 abbrev pub AreTexts : ProgramTree → List ℕ → List ℕ → List ℕ → Type 0
 AreTexts p hex text line =
-    (m : Map) × (text ≡ map_text m) × IsFirmware p hex (map_text m) × IsScheduled p hex (map_text m) × (line ≡ summary m p) × IsBuildable p
+    (m : Map) × (text ≡ map_text m) × IsFirmware p hex (map_text m) × IsScheduled p hex (map_text m) × IsReported p m × (line ≡ summary m p)
+    × IsBuildable p

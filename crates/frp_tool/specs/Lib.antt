@@ -1,14 +1,10 @@
+pub mod Bigs
 pub mod Checks
 pub mod Compiles
-pub mod Endings
 pub mod Lines
 pub mod Models
-pub mod Outsides
 pub mod Promises
-pub mod Reads
 pub mod Requests
-pub mod RunFaults
-pub mod RunLines
 pub mod Runs
 pub mod SourceTexts
 pub mod Writes

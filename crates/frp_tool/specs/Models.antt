@@ -10,12 +10,12 @@ use Rattle.efrp_types.specs.Passes.{Passes}
 use Rattle.checked_source.specs.Readings.{Reading, Passing, IsRead}
 use Rattle.event_file.specs.Events.{events_of, first_unknown, told_events, AreTooMany}
 use Rattle.event_file.specs.Model.{model_text}
-use Rattle.frp_tool.specs.declared.halts.Halt.{Halt}
+use Rattle.command_parts.specs.declared.halts.Halt.{Halt}
 use Rattle.frp_tool.specs.Lines.{unknown_line, many_events_line}
-use Rattle.frp_tool.specs.Outsides.{Outside}
-use Rattle.frp_tool.specs.Endings.{Ends, DueOrYielded, Gives}
-use Rattle.frp_tool.specs.Reads.{Unread, unread_status, unread_line, IsInput, IsUnread, IsLong, IsNext}
-use Rattle.frp_tool.specs.SourceTexts.{IsRefused, refusal_line}
+use Rattle.command_parts.specs.Outsides.{Outside}
+use Rattle.command_parts.specs.Endings.{Ends, DueOrYielded, Gives}
+use Rattle.command_parts.specs.Reads.{Unread, unread_status, unread_line, IsInput, IsUnread, IsLong, IsNext}
+use Rattle.command_parts.specs.Lines.{IsRefused, refusal_line}
 
 -- The names that `model` is given.
 pub record ModelRequest : Type 0 where

@@ -8,15 +8,15 @@ use Rattle.pic_machine.specs.declared.steps.Did.TheVariants.{Stopped}
 use Rattle.pic_machine.specs.declared.steps.Why.{Why}
 use Rattle.pic_machine.specs.Run.{Log, run}
 use Rattle.arrival_script.specs.Trace.{start_of, outers_of, lines_of, trace_text, GoesOn, StopsFirst}
-use Rattle.frp_tool.specs.declared.halts.Halt.{Halt}
-use Rattle.frp_tool.specs.declared.halts.Halt.TheVariants as halt
-use Rattle.frp_tool.specs.declared.inputs.Inputs.{Inputs}
-use Rattle.frp_tool.specs.declared.inputs.Parts.{Parts}
-use Rattle.frp_tool.specs.Outsides.{Outside}
-use Rattle.frp_tool.specs.Endings.{DueOrYielded, Gives}
-use Rattle.frp_tool.specs.Reads.{IsLong, IsNext}
-use Rattle.frp_tool.specs.RunLines.{stop_line}
-use Rattle.frp_tool.specs.RunFaults.{RunRequest, RunFault, fault_status, fault_line, FaultCause, names_of, IsFirstFault, AreInputs, AreParts, ArePartsOf}
+use Rattle.command_parts.specs.declared.halts.Halt.{Halt}
+use Rattle.command_parts.specs.declared.halts.Halt.TheVariants as halt
+use Rattle.run_inputs.specs.declared.inputs.Inputs.{Inputs}
+use Rattle.run_inputs.specs.declared.inputs.Parts.{Parts}
+use Rattle.command_parts.specs.Outsides.{Outside}
+use Rattle.command_parts.specs.Endings.{DueOrYielded, Gives}
+use Rattle.command_parts.specs.Reads.{IsLong, IsNext}
+use Rattle.run_inputs.specs.RunLines.{stop_line}
+use Rattle.run_inputs.specs.RunFaults.{RunRequest, RunFault, fault_status, fault_line, FaultCause, names_of, IsFirstFault, AreInputs, AreParts, ArePartsOf}
 
 -- The run of the image from power-on, under what the script says comes from outside.
 abbrev pub log_of : Parts → Log

@@ -1,33 +1,15 @@
 -- What a command finds in the source: a program that passes the checks, or why there is none.
-use Rattle.std.specs.Prelude.{◌≡◌, ℕ, ◌<◌, ◌≤◌, List, [], length, Some, None, ◌⊎◌}
+use Rattle.std.specs.Prelude.{◌≡◌, ℕ, ◌<◌, ◌≤◌, List, length, Some, None, ◌⊎◌}
 use Rattle.edge_io.specs.declared.outside.TheConstants.{LONGEST_FILE}
 use Rattle.edge_io.specs.Files.{Held, FilesSeen, IfTold}
 use Rattle.edge_io.specs.Sinks.{Appends}
 use Rattle.edge_io.specs.Counts.{Rose}
 use Rattle.frp_tree.specs.Tree.{ProgramTree}
-use Rattle.checked_source.specs.Readings.{Reading, Passing, Faulty, Misused, Cyclic, Reads, IsRead}
-use Rattle.frp_tool.specs.Lines.{syntax_line, check_line, cycle_line}
-use Rattle.frp_tool.specs.Outsides.{Outside}
-use Rattle.frp_tool.specs.Endings.{Ends, DueOrYielded}
-use Rattle.frp_tool.specs.Reads.{Unread, TooLong, unread_status, unread_line, IsUnread}
-
--- A reading is a fault, and so gives no program.
-abbrev pub IsRefused : Reading → Type 0
-IsRefused (Passing p) = ⊥
-IsRefused (Faulty fault) = Unit {0}
-IsRefused (Misused fault) = Unit {0}
-IsRefused (Cyclic event name) = Unit {0}
-
--- The line of a fault. A program has none.
-abbrev pub refusal_line : Reading → List ℕ
-refusal_line (Passing p) = []
-refusal_line (Faulty fault) = syntax_line fault
-refusal_line (Misused fault) = check_line fault
-refusal_line (Cyclic event name) = cycle_line event name
-
--- The source of this name is held, and this holds of its text, where files are told.
-abbrev pub OfSource : List ℕ → FilesSeen → (List ℕ → Type 0) → Type 0
-OfSource source before P = IfTold before (λ held. (text : List ℕ) × (held source ≡ Some text) × P text)
+use Rattle.checked_source.specs.Readings.{Reading, Passing, Reads, IsRead}
+use Rattle.command_parts.specs.Lines.{IsRefused, refusal_line}
+use Rattle.command_parts.specs.Outsides.{Outside}
+use Rattle.command_parts.specs.Endings.{Ends, DueOrYielded}
+use Rattle.command_parts.specs.Reads.{Unread, TooLong, unread_status, unread_line, IsUnread, OfSource}
 
 -- The source is read as this program, where files are told.
 abbrev pub SourceGives : List ℕ → FilesSeen → ProgramTree → Type 0

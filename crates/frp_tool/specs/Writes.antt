@@ -2,9 +2,9 @@
 use Rattle.std.specs.Prelude.{◌≡◌, ◌≢◌, ℕ, List, Some, Result, Ok, Err, codes, string_bytes, ◌⊎◌}
 use Rattle.edge_io.specs.Files.{Held, FilesSeen, SameOthers, Replaces, BothTold, KeepsFiles}
 use Rattle.edge_io.specs.Counts.{Rose}
-use Rattle.frp_tool.specs.declared.halts.Halt.{Halt}
-use Rattle.frp_tool.specs.declared.halts.Halt.TheVariants as halt
-use Rattle.frp_tool.specs.Lines.{named_line}
+use Rattle.command_parts.specs.declared.halts.Halt.{Halt}
+use Rattle.command_parts.specs.declared.halts.Halt.TheVariants as halt
+use Rattle.command_parts.specs.Lines.{named_line}
 
 -- A file has these bytes now.
 abbrev pub Has : Held → List ℕ → List ℕ → Type 0

@@ -5,8 +5,8 @@ ghost use Rattle.frp_tree.specs.Tree.{program_tree_of};
 ghost use Rattle.frp_tool.specs.Checks.{CheckWorks};
 ghost use Rattle.frp_tool.specs.Lines.{counts_line};
 
-use crate::halts::Halt;
 use crate::source::read_source;
+use command_parts::Halt;
 use edge_io::Files;
 use frp_tree::{Program, Text};
 use std::alloc::{AllocError, Global};

@@ -4,16 +4,15 @@ ghost use Rattle.std.specs.Fmt.{decimal};
 ghost use Rattle.frp_tree.specs.Tree.{program_tree_of};
 ghost use Rattle.firmware_map.specs.Laws.{HasNames};
 ghost use Rattle.firmware.specs.Builds.{IsBuildFault, IsBuilt};
-ghost use Rattle.frp_tool.specs.Endings.{Gives};
+ghost use Rattle.command_parts.specs.Endings.{Gives};
 ghost use Rattle.frp_tool.specs.Compiles.{AreTexts, CompileWorks};
 ghost use Rattle.frp_tool.specs.Lines.{build_line, summary_of};
 
 use crate::fault_lines::build_line;
-use crate::halts::Halt;
-use crate::says::REFUSED;
 use crate::source::read_source;
 use crate::writes::store;
 use causality::Checked;
+use command_parts::{Halt, REFUSED};
 use edge_io::Files;
 use firmware::Built;
 use frp_tree::{List as Bytes, Text};

@@ -6,7 +6,7 @@ ghost use Rattle.edge_io.specs.Files.{KeepsFiles};
 ghost use Rattle.frp_tree.specs.Tree.{ProgramTree, program_tree_of};
 ghost use Rattle.event_file.specs.Model.{model_text};
 ghost use Rattle.event_file.specs.Reads.{IsFound, occurrence_of};
-ghost use Rattle.frp_tool.specs.Endings.{Gives};
+ghost use Rattle.command_parts.specs.Endings.{Gives};
 ghost use Rattle.frp_tool.specs.Lines.{unknown_line};
 ghost use Rattle.frp_tool.specs.Models.{
   AreModelTexts,
@@ -18,11 +18,9 @@ ghost use Rattle.frp_tool.specs.Models.{
   model_fault_line,
 };
 
-use crate::halts::Halt;
-use crate::reads::input;
-use crate::says::REFUSED;
 use crate::source::program_in;
 use causality::Checked;
+use command_parts::{Halt, REFUSED, input};
 use edge_io::Files;
 use event_file::{EventsFault, Occurrence, add_init, add_reaction, read_events};
 use frp_tree::{List as Bytes, Text};

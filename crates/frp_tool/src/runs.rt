@@ -5,13 +5,11 @@ ghost use Rattle.map_file.specs.MapRules.{IsMap};
 ghost use Rattle.arrival_script.specs.Scripts.{IsScript};
 ghost use Rattle.frp_tool.specs.Runs.{RunWorks, Traced};
 
-use crate::fault_lines::stop_line;
-use crate::halts::Halt;
-use crate::inputs::{Parts, read_parts};
-use crate::says::REFUSED;
 use arrival_script::{TraceFault, trace};
+use command_parts::{Halt, REFUSED};
 use edge_io::{Files, Sink};
 use frp_tree::Text;
+use run_inputs::{Parts, read_parts, stop_line};
 use std::alloc::Global;
 
 // Puts the trace, up to where the chip stops. No line is left to be put where it doesn't.

@@ -4,15 +4,13 @@ ghost use Rattle.frp_tree.specs.Tree.{program_tree_of};
 ghost use Rattle.checked_source.specs.Readings.{IsRead, Passing};
 ghost use Rattle.edge_io.specs.Files.{KeepsFiles};
 ghost use Rattle.firmware_map.specs.Laws.{HasNames};
-ghost use Rattle.frp_tool.specs.Endings.{Gives};
-ghost use Rattle.frp_tool.specs.SourceTexts.{IsRefused, SourceCause, SourceGives, refusal_line, source_line, source_status};
+ghost use Rattle.command_parts.specs.Endings.{Gives};
+ghost use Rattle.command_parts.specs.Lines.{IsRefused, refusal_line};
+ghost use Rattle.frp_tool.specs.SourceTexts.{SourceCause, SourceGives, source_line, source_status};
 
-use crate::fault_lines::{check_line, cycle_line, syntax_line};
-use crate::halts::Halt;
-use crate::reads::input;
-use crate::says::REFUSED;
 use causality::Checked;
 use checked_source::{SourceFault, read};
+use command_parts::{Halt, REFUSED, check_line, cycle_line, input, syntax_line};
 use edge_io::Files;
 use frp_tree::Text;
 use std::alloc::Global;
@@ -29,7 +27,7 @@ pub fn program_in(alloc: Global, text: &[u8]) -> Result<Checked, Halt>
         }),
         Err(SourceFault::Check(fault)) => Err(Halt::Said {
             status: REFUSED,
-            line: check_line(alloc, fault)?,
+            line: check_line(alloc, &fault)?,
         }),
         Err(SourceFault::Cycle { event, name }) => Err(Halt::Said {
             status: REFUSED,

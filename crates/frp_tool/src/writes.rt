@@ -2,8 +2,7 @@
 ghost use Rattle.std.specs.Prelude.{◌≤◌};
 ghost use Rattle.frp_tool.specs.Writes.{Stores};
 
-use crate::halts::Halt;
-use crate::says::{OUTSIDE_FAILED, line_with_name};
+use command_parts::{Halt, OUTSIDE_FAILED, line_with_name};
 use edge_io::{Files, WriteFault};
 use frp_tree::Text;
 use std::alloc::Global;

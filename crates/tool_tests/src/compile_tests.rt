@@ -197,10 +197,9 @@ const NO_COMMANDS: &[&[&str]] = &[
     &["compile", SOURCE, "", MAP],
     &["compile", SOURCE, "-o", MAP],
     &["compile", SOURCE, HEX, HEX],
+    &["big", "4294967296", HEX, MAP],
+    &["big", "7", HEX, HEX],
 ];
-
-/// Words of the command to come.
-const TO_COME: &[&str] = &["big", "7", HEX, MAP];
 
 // Whether these words are answered with the usage line.
 fn form_no_command(rt: &(impl AllocGlobal + Print), words: &[&str]) -> bool {
@@ -216,11 +215,6 @@ fn answers_other_words_with_the_usage_line(rt: HostRuntime) {
     for words in NO_COMMANDS {
         assert!(rt; form_no_command(&rt, words), "{words:?}");
     }
-}
-
-#[test]
-fn answers_the_command_to_come_with_the_usage_line(rt: HostRuntime) {
-    assert!(rt; form_no_command(&rt, TO_COME));
 }
 
 // Whether a counter that blanks make this long ends so.

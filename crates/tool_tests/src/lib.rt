@@ -3,6 +3,8 @@
 #![tactic(auto)]
 
 #[cfg(test)]
+mod big_tests;
+#[cfg(test)]
 mod calls;
 #[cfg(test)]
 mod check_tests;

@@ -28,30 +28,30 @@ pub returns-in_err-store : goal.returns-in_err-store
 returns-in_err-store g c =
     let r : CompileRequest = record { source = c.args.source.now; hex = c.args.hex.now; map = c.args.map.now } in
     let t = c.in_ok-texts.ensures in
-    let f : Firmware = record { program = program_tree_of c.in_ok-checked.checked.typed.program; hex = c.in_ok-texts.texts.hex; map = t.0; is_firmware = t.2; is_scheduled = t.3 } in
+    let f : Firmware = record { program = program_tree_of c.in_ok-checked.checked.typed.program; hex = c.in_ok-texts.texts.hex; map = t.0; is_firmware = t.2; is_scheduled = t.3; is_reported = t.4 } in
     let read = c.in_ok-checked.ensures in
     let p = err_from_is_err_and c.from_residual-in_err-store.result c.from_residual-in_err-store.ensures.1 in
     rw (p.1, p.2)
-    (hex_works r (g.F.Files.seen c.args.files.now) (g.F.Files.seen c.read_source.new.files) (g.F.Files.seen c.store.new.files) f (read.gives, t.5) read.unchanged read.write_count c.as_slice.result.now _
+    (hex_works r (g.F.Files.seen c.args.files.now) (g.F.Files.seen c.read_source.new.files) (g.F.Files.seen c.store.new.files) f (read.gives, t.6) read.unchanged read.write_count c.as_slice.result.now _
     c.in_err-store.ensures.stores)
 
 pub returns-in_err-store-2 : goal.returns-in_err-store-2
 returns-in_err-store-2 g c =
     let r : CompileRequest = record { source = c.args.source.now; hex = c.args.hex.now; map = c.args.map.now } in
     let t = c.in_ok-texts.ensures in
-    let f : Firmware = record { program = program_tree_of c.in_ok-checked.checked.typed.program; hex = c.in_ok-texts.texts.hex; map = t.0; is_firmware = t.2; is_scheduled = t.3 } in
+    let f : Firmware = record { program = program_tree_of c.in_ok-checked.checked.typed.program; hex = c.in_ok-texts.texts.hex; map = t.0; is_firmware = t.2; is_scheduled = t.3; is_reported = t.4 } in
     let read = c.in_ok-checked.ensures in
     let p = err_from_is_err_and c.from_residual-in_err-store-2.result c.from_residual-in_err-store-2.ensures.1 in
     rw (p.1, p.2)
-    (map_works r (g.F.Files.seen c.args.files.now) (g.F.Files.seen c.read_source.new.files) (g.F.Files.seen c.store.new.files) f (read.gives, t.5) read.unchanged read.write_count (g.F.Files.seen c.store-2.new.files)
+    (map_works r (g.F.Files.seen c.args.files.now) (g.F.Files.seen c.read_source.new.files) (g.F.Files.seen c.store.new.files) f (read.gives, t.6) read.unchanged read.write_count (g.F.Files.seen c.store-2.new.files)
     c.as_slice.result.now c.as_slice.ensures c.in_ok-store.ensures.stores c.in_ok-store.ensures.write_count c.requires c.as_slice-2.result.now _ c.in_err-store-2.ensures.stores)
 
 pub returns : goal.returns
 returns g c =
     let r : CompileRequest = record { source = c.args.source.now; hex = c.args.hex.now; map = c.args.map.now } in
     let t = c.in_ok-texts.ensures in
-    let f : Firmware = record { program = program_tree_of c.in_ok-checked.checked.typed.program; hex = c.in_ok-texts.texts.hex; map = t.0; is_firmware = t.2; is_scheduled = t.3 } in
+    let f : Firmware = record { program = program_tree_of c.in_ok-checked.checked.typed.program; hex = c.in_ok-texts.texts.hex; map = t.0; is_firmware = t.2; is_scheduled = t.3; is_reported = t.4 } in
     let read = c.in_ok-checked.ensures in
-    done_works r (g.F.Files.seen c.args.files.now) (g.F.Files.seen c.read_source.new.files) (g.F.Files.seen c.store.new.files) f (read.gives, t.5) read.unchanged read.write_count (g.F.Files.seen c.store-2.new.files)
+    done_works r (g.F.Files.seen c.args.files.now) (g.F.Files.seen c.read_source.new.files) (g.F.Files.seen c.store.new.files) f (read.gives, t.6) read.unchanged read.write_count (g.F.Files.seen c.store-2.new.files)
     c.as_slice.result.now c.as_slice.ensures c.in_ok-store.ensures.stores c.in_ok-store.ensures.write_count c.requires c.as_slice-2.result.now c.in_ok-texts.texts.summary (c.as_slice-2.ensures ∙ t.1)
-    c.in_ok-store-2.ensures.stores t.4
+    c.in_ok-store-2.ensures.stores t.5

@@ -15,6 +15,7 @@ returns c =
       c.in_ok-write-2.ensures,
       subst (λ hex. IsFirmware p hex (map_text m)) (sym c.in_ok-write.ensures) c.requires.firmware,
       subst (λ hex. IsScheduled p hex (map_text m)) (sym c.in_ok-write.ensures) c.requires.scheduled,
+      c.requires.reported,
       c.in_ok-summary_line.ensures ∙ summary_same m m _ _ _ _ _ _ refl bounds.words bounds.ram bounds.settle,
       c.requires.buildable,
     )

@@ -2,7 +2,8 @@ use Rattle.std.proofs.lemmas.Result.{err_from_is_err_and}
 use Rattle.frp_tree.specs.Tree.{program_tree_of}
 use Rattle.causality.specs.declared.checked.Checked.{Checked}
 use Rattle.checked_source.specs.Readings.{Reading, IsRead, Passing}
-use Rattle.frp_tool.specs.SourceTexts.{IsRefused, SourceGives, refusal_line}
+use Rattle.command_parts.specs.Lines.{IsRefused, refusal_line}
+use Rattle.frp_tool.specs.SourceTexts.{SourceGives}
 use Rattle.frp_tool.proofs.SourceNameFacts.{read_has_names}
 use Rattle.frp_tool.proofs.SourceStepFacts.{source_unread, source_gives, source_read}
 use Rattle.frp_tool.proofs.source.read_source.Goals as goal

@@ -1,4 +1,4 @@
-use Rattle.frp_tool.specs.Outsides.{Outside}
+use Rattle.command_parts.specs.Outsides.{Outside}
 use Rattle.frp_tool.specs.Requests.{request_of}
 use Rattle.frp_tool.proofs.PromiseLaws.{compile_keeps, run_keeps, none_keeps, check_keeps, model_keeps, big_keeps}
 use Rattle.frp_tool.proofs.tool.efrp.Goals as goal
@@ -28,8 +28,9 @@ returns g c =
           (rw w.in-Some-Model.field-0-is at w.in-Some-Model.ensures.is) w.model-work.ensures.unchanged w.model-work.ensures.works)
       | in-Some-Big w ↦
           rw w.files-is
-          (big_keeps words before out c.finish.result w.explain-work.result (rw (w.out-is, w.work-is) at c.finish.ensures) w.in-Some-Big.field-0-0 w.in-Some-Big.field-0-1.now w.in-Some-Big.field-0-2.now (rw w.in-Some-Big.field-0-is at w.in-Some-Big.ensures.is) w.explain-work.ensures)
+          (big_keeps words before out c.finish.result w.big-work.result (rw (w.out-is, w.work-is) at c.finish.ensures) w.in-Some-Big.number w.in-Some-Big.hex.now w.in-Some-Big.map.now
+          (g.F.Files.seen w.big-work.new.files) (rw w.in-Some-Big.field-0-is at w.in-Some-Big.ensures.is) w.big-work.ensures)
       | in-None w ↦
           rw w.files-is
-          (none_keeps words before out c.finish.result w.explain-work-in-None.result (rw (w.out-is, w.work-is) at c.finish.ensures) w.in-None.ensures.is w.explain-work-in-None.ensures)
+          (none_keeps words before out c.finish.result w.explain-work.result (rw (w.out-is, w.work-is) at c.finish.ensures) w.in-None.ensures.is w.explain-work.ensures)
     ]

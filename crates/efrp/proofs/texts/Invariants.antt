@@ -1,6 +1,0 @@
-use Rattle.std.proofs.Common.{◌≡◌, map, string_bytes}
-use Rattle.efrp.proofs.texts.Given as goal
-
--- a text for each argument so far
-abbrev pub invariant-loop-word : goal.invariant-loop-word
-invariant-loop-word l = l.words ≡ map string_bytes l.yielded
