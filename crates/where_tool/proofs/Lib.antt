@@ -1,0 +1,13 @@
+pub mod FewFacts
+pub mod LineFacts
+pub mod PlaceFacts
+pub mod PointFacts
+pub mod PointLaws
+pub mod PromiseFacts
+pub mod SpotLaws
+pub mod ToolFacts
+pub mod TypeFacts
+pub mod UseFacts
+pub mod VerdictFacts
+pub mod VisitLaws
+pub mod WalkFacts

@@ -1,0 +1,16 @@
+use Rattle.std.specs.Prelude.{ℕ, List, map}
+use Rattle.frp_tree.specs.declared.syntax.Output.{Output}
+use Rattle.frp_tree.specs.Tree.{output_of}
+use Rattle.where_tool.specs.Visits.{output_visits}
+use Rattle.where_tool.proofs.WalkFacts.{gone-halts, gone-all, gone-more}
+use Rattle.where_tool.proofs.name_walk.outputs.Goals as goal
+
+pub returns-in_err-met : goal.returns-in_err-met
+returns-in_err-met c =
+    gone-halts (λ (n : ℕ) (before : List Output) (o : Output). output_visits n (map output_of before) (output_of o)) c.args.outputs.now c.loop-i.i c.index-outputs-i.result _ c.from_residual.result c.loop-i-test.true c.index-outputs-i.is c.loop-i.invariant c.from_residual.ensures.1 (c.in_err-met.ensures _ c.output.ensures)
+
+pub returns : goal.returns
+returns c = (gone-all (λ (n : ℕ) (before : List Output) (o : Output). output_visits n (map output_of before) (output_of o)) c.args.outputs.now c.loop-i.i c.loop-i.auto.i-end c.loop-i-test.false c.loop-i.invariant, tt)
+
+pub loop-i-preserved : goal.loop-i-preserved
+loop-i-preserved c = let walked = c.in_ok-met.ensures _ c.output.ensures in gone-more (λ (n : ℕ) (before : List Output) (o : Output). output_visits n (map output_of before) (output_of o)) c.args.outputs.now c.loop-i.i c.index-outputs-i.result c.loop-i-test.true c.index-outputs-i.is c.loop-i.invariant walked.0

@@ -1,0 +1,4 @@
+use Rattle.where_tool.proofs.points.out_of_memory.Goals as goal
+
+pub unreachable-requires : goal.unreachable-requires
+unreachable-requires c = c.in_default.not-Memory c.requires

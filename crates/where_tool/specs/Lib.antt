@@ -1,0 +1,13 @@
+pub mod Asking
+pub mod Laws
+pub mod Messages
+pub mod PartTokens
+pub mod PointParts
+pub mod Points
+pub mod Promises
+pub mod SpotParts
+pub mod Spots
+pub mod VerdictParts
+pub mod Verdicts
+pub mod Visits
+pub mod Walks
