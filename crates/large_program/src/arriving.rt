@@ -30,8 +30,9 @@ pub fn arrivals(alloc: Global, n: u32) -> Result<List<OneArrival>, AllocError>
     let mut at = FIRST_BOUNDARY;
     for _ in 0..ARRIVALS {
         let source = draws.below(11) as u8;
+        let gap = draws.below(600);
         all.push(OneArrival { at, source })?;
-        at += 1 + draws.below(600);
+        at += 1 + gap;
     }
     Ok(all)
 }
