@@ -1,6 +1,5 @@
 pub mod BootLaws
 pub mod CountLaws
-pub mod DidLaws
 pub mod Examples
 pub mod FittedLaws
 pub mod ImageLaws

@@ -3,7 +3,6 @@ pub mod CycleLaws
 pub mod DeclaredFacts
 pub mod DefinedLaws
 pub mod Examples
-pub mod FirstFormLaws
 pub mod MeaningLaws
 pub mod NameFacts
 pub mod NeedsLaws

@@ -4,4 +4,3 @@ pub mod SpaceFacts
 pub mod LineFacts
 pub mod ReadFacts
 pub mod ModelFacts
-pub mod ReadLaws

@@ -4,6 +4,5 @@ pub mod ByteLaws
 pub mod Examples
 pub mod MemoryFacts
 pub mod PowerFacts
-pub mod RamFacts
 pub mod SetFacts
 pub mod SetupRegisterLaws
