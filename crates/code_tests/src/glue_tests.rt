@@ -1,42 +1,10 @@
-// Lines of glue as items, and bytes that glue moves over several banks.
+// Lines of glue as items.
 
 use code_items::{Code, Item};
-use code_steps::Bank;
-use frp_tree::List;
-use glue_steps::{Line, Origin, Transfer, add_lines, add_transfers};
+use glue_steps::{Line, add_lines};
 use pic_isa::{Dest, Instr, Source};
 use pic_regs::Place;
 use std::test::Fail;
-
-// 120h is copied to 0A0h, and 7 is put on port B.
-#[test]
-fn moves_over_three_banks(rt: HostRuntime) -> Result<(), Fail> {
-    let mut lines = List::new(rt.alloc());
-    let transfers = [
-        Transfer {
-            from: Origin::Cell(0x120),
-            to: Place::Plain(0x0A0),
-        },
-        Transfer {
-            from: Origin::Literal(7),
-            to: Place::Port(1),
-        },
-    ];
-    let bank = add_transfers(&mut lines, Bank::Known(0), &transfers)?;
-    let expected = [
-        Line::Bit(true, Place::Status, 6),
-        Line::Load(Place::Plain(0x120)),
-        Line::Bit(true, Place::Status, 5),
-        Line::Bit(false, Place::Status, 6),
-        Line::Store(Place::Plain(0x0A0)),
-        Line::Constant(7),
-        Line::Bit(false, Place::Status, 5),
-        Line::Store(Place::Port(1)),
-    ];
-    assert!(rt; lines.as_slice() == expected.as_slice());
-    assert!(rt; bank == Bank::Known(0));
-    Ok(())
-}
 
 // The flag of T0 is cleared, TRISB is read, and a byte in bank 2 is tested.
 #[test]

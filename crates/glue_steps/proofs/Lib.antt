@@ -7,4 +7,3 @@ pub mod StillLaws
 pub mod StraightLaws
 pub mod StretchLaws
 pub mod TellsLaws
-pub mod TransferLaws

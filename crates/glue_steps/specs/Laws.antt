@@ -25,12 +25,10 @@ use Rattle.code_acts.specs.Standing.{StandFrom}
 use Rattle.glue_steps.specs.Jumping.{JumpWithin, SkipWithin}
 use Rattle.glue_steps.specs.declared.lines.Line.{Line}
 use Rattle.glue_steps.specs.Tells.{Tells, Withstands}
-use Rattle.glue_steps.specs.Still.{Off, Still, StillAll, PlacesIn}
+use Rattle.glue_steps.specs.Still.{Off, Still, StillAll}
 use Rattle.glue_steps.specs.Lines.{LineFits, instr_of, item_of, skips, did, ran, is_glue, keeps_flag, loaded}
 use Rattle.glue_steps.specs.Stretches.{BankBits, Banked, Reached, register_of, Fits, ran_all, puts_of, place_behind, HasEnables}
-use Rattle.glue_steps.specs.Transfers.{transfer_lines, known_past, transfer_puts, TransfersHome, TransfersMay, Transferred}
 use Rattle.glue_steps.specs.Choices.{FlagTest, test_items, test_words, TestsWithin, TestsReach, Found, FoundNone}
-use Rattle.glue_steps.specs.declared.transfers.Transfer.{Transfer}
 use Rattle.glue_steps.specs.declared.lines.Line.TheVariants.{Load}
 use Rattle.code_steps.specs.declared.banks.Bank.TheVariants.{Known}
 use Rattle.pic_regs.specs.Bytes.{Byte}
@@ -154,17 +152,6 @@ WorkTold program piece test k c =
     let inside : ℕ → Type 0 = Between piece.start piece.stop in
     ((p : ℕ) → inside p → (program p == 0x0009) ≡ false) → Off c → Comes program Alone (OwnOf piece) (Passes test) k c
     → Tells program (Still program inside (λ address. piece.may address ≡ true)) (Passes test) [] k c
-
--- Transfers that stand from the program counter on leave what they are to leave, and put what they put, whatever arrives on the
--- way; and there the code goes on.
-abbrev pub TransfersTold : (ℕ → ℕ) → Glue → (Chip → Bool) → BankBits → List Transfer → (p : ℕ) → List PortWrite → ℕ → Chip → Type 0
-TransfersTold program glue test known ts p later k c =
-    let lines = transfer_lines known ts [] in
-    Withstands (Passes test) → TransfersHome ts → TransfersMay (λ address. glue.may address ≡ true) ts → PlacesIn (λ q. glue.inside q ≡ true) p lines
-    → StandFrom program p (map instr_of lines) → c.pc ≡ p → Banked known c → Off c
-    → ((e : Chip) → Transferred ts c e → e.pc ≡ place_behind p lines → Banked (known_past known ts) e
-    → Tells program (StillIn program glue) (Passes test) later k e)
-    → Tells program (StillIn program glue) (Passes test) (transfer_puts ts c.regs later) (length lines + k) c
 
 -- MOVF of INTCON to W, the one line that reads flags, leaves there some byte with INTCON's bits but for the flags at 2 and 1.
 abbrev pub IntconTold : (ℕ → ℕ) → Glue → (Chip → Bool) → (p : ℕ) → List PortWrite → ℕ → Chip → Type 0

@@ -5,4 +5,3 @@ pub mod Lines
 pub mod Still
 pub mod Stretches
 pub mod Tells
-pub mod Transfers

@@ -3,10 +3,9 @@
 ghost use Rattle.std.specs.Prelude.{ℕ, Bool, List as Items};
 ghost use Rattle.code_items.specs.declared.items.Item.{Item as AnyItem};
 ghost use Rattle.glue_steps.specs.Choices.{FlagTest};
-ghost use Rattle.glue_steps.specs.Laws.{ArrivesBehind, BoundaryTold, FlagBehind, FlagsStay, Glue, GoesOn, IntconTold, JumpTold, LineInRange, LineLeaves, LinesStand, Longer, OneThenOther, SkipTold, Straight, TestsTold, TransfersTold, WorkTold};
+ghost use Rattle.glue_steps.specs.Laws.{ArrivesBehind, BoundaryTold, FlagBehind, FlagsStay, Glue, GoesOn, IntconTold, JumpTold, LineInRange, LineLeaves, LinesStand, Longer, OneThenOther, SkipTold, Straight, TestsTold, WorkTold};
 ghost use Rattle.glue_steps.specs.Stretches.{BankBits};
 ghost use Rattle.glue_steps.specs.declared.lines.Line.{Line as AnyLine};
-ghost use Rattle.glue_steps.specs.declared.transfers.Transfer.{Transfer as AnyTransfer};
 ghost use Rattle.code_steps.specs.Laws.{Piece};
 ghost use Rattle.pic_isa.specs.declared.instructions.Instr.{Instr as AnyInstr};
 ghost use Rattle.pic_isa.specs.declared.sources.Source.{Source as AnySource};
@@ -89,12 +88,6 @@ pub fn skips_or_jumps()
 /// Work whose code comes to something over arrivals comes to it as glue, where GIE is clear.
 pub fn work_is_told()
     ensures { (program : ℕ → ℕ) (piece : Piece) (test : Chip → Bool) (k : ℕ) (c : Chip) → WorkTold program piece test k c }
-{}
-
-/// Bytes that are moved stand where they are to, and are put on ports in order, whatever arrives.
-pub fn transfers_move()
-    ensures { (program : ℕ → ℕ) (glue : Glue) (test : Chip → Bool) (known : BankBits) (ts : Items AnyTransfer) (p : ℕ) (later : Items AnyPut) (k : ℕ) (c : Chip)
-        → TransfersTold program glue test known ts p later k c }
 {}
 
 /// MOVF of INTCON to W leaves there INTCON's bits, but for flags that may have come.

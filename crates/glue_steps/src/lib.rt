@@ -7,13 +7,10 @@
 
 mod laws;
 mod lines;
-mod transfers;
 
 pub use laws::{
     arrives_behind, clears_one_flag, fields_are_in_range, goes_on_after_arrivals,
     jumps_to_its_mark, keeps_flags, line_leaves, lines_stand, may_take_longer, one_after_the_other,
-    reads_enables, skips_or_jumps, straight_on, takes_its_own_step, tests_choose, transfers_move,
-    work_is_told,
+    reads_enables, skips_or_jumps, straight_on, takes_its_own_step, tests_choose, work_is_told,
 };
 pub use lines::{Line, add_lines};
-pub use transfers::{Origin, Transfer, add_bank, add_transfers};
