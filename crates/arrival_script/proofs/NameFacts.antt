@@ -15,7 +15,7 @@ use Rattle.pic_regs.specs.Arrivals.{Sources, set_of, number_of}
 use Rattle.pic_regs.proofs.ArrivalLaws.{set_of-number_of}
 use Rattle.arrival_script.specs.declared.scripts.Cause.TheVariants.{UnknownSource, SourceTwice}
 use Rattle.arrival_script.specs.Scripts.{is_source, has_twice}
-use Rattle.arrival_script.specs.Entries.{names_cause, SetOf}
+use Rattle.arrival_script.specs.Entries.{SetOf}
 use Rattle.arrival_script.proofs.ListFacts.{has_pair-push}
 use Rattle.arrival_script.proofs.SourceFacts.{with_source, source-named, number_of-below, set_of-some}
 
@@ -31,9 +31,6 @@ pub record NamesSoFar (all rest : List (List ℕ)) (set : ℕ) (twice : Bool) : 
   pub named : set ≡ number_of (named_by seen)
   pub alike : has_twice seen ≡ twice
   pub some : 0 < length seen → 0 < set
-
-pub names-none : (all : List (List ℕ)) → NamesSoFar all all 0 false
-names-none all = record { seen = []; split = refl; sources = refl; named = refl; alike = refl; some = λ h. h }
 
 bytes_eq-sym : (xs ys : List ℕ) → bytes_eq xs ys ≡ bytes_eq ys xs
 bytes_eq-sym xs ys =
@@ -70,25 +67,9 @@ names-more all rest set twice name more source so e n =
       some = λ h. has_some source (set_of set);
     }
 
--- A name that is no source's.
-pub names-unknown : (all rest : List (List ℕ)) (set : ℕ) (twice : Bool) (name : List ℕ) (more : List (List ℕ))
-    → NamesSoFar all rest set twice → rest ≡ name ∷ more → is_source name ≡ false → names_cause all ≡ Some UnknownSource
-names-unknown all rest set twice name more so e h =
-    let known : list_all is_source all ≡ false =
-    ap (list_all is_source) (so.split ∙ ap (λ r. so.seen ++ r) e) ∙ list_all-append is_source so.seen (name ∷ more)
-    ∙ ap (λ b. b && list_all is_source (name ∷ more)) so.sources ∙ ap (λ b. b && list_all is_source more) h in
-    ap (λ b. cond (not b) (Some UnknownSource) (cond (has_twice all) (Some SourceTwice) None)) known
-
 -- All names.
 whole : (all rest : List (List ℕ)) (set : ℕ) (twice : Bool) (so : NamesSoFar all rest set twice) → rest ≡ [] → so.seen ≡ all
 whole all rest set twice so e = sym (so.split ∙ ap (λ r. so.seen ++ r) e ∙ append-nil so.seen)
-
-pub names-twice : (all rest : List (List ℕ)) (set : ℕ) (twice : Bool) → NamesSoFar all rest set twice → rest ≡ [] → twice ≡ true → names_cause all ≡ Some SourceTwice
-names-twice all rest set twice so e h =
-    let same = whole all rest set twice so e in
-    let known : list_all is_source all ≡ true = ap (list_all is_source) (sym same) ∙ so.sources in
-    let double : has_twice all ≡ true = ap has_twice (sym same) ∙ so.alike ∙ h in
-    ap (λ b. cond (not b) (Some UnknownSource) (cond (has_twice all) (Some SourceTwice) None)) known ∙ ap (λ b. cond b (Some SourceTwice) None) double
 
 pub names-set : (all rest : List (List ℕ)) (set : ℕ) (twice : Bool) → NamesSoFar all rest set twice → rest ≡ [] → twice ≡ false → SetOf all (Ok set)
 names-set all rest set twice so e h =

@@ -83,9 +83,6 @@ pub record PinsSoFar (changes rest : List PinChange) (boundary : ℕ) (old now :
   pub later : (k : ℕ) → boundary < k → pins_at rest k ≡ pins_at changes k
   pub change : ChangeFrom boundary rest
 
-pub pins-none : (changes : List PinChange) (boundary : ℕ) (old : Chip) → ChangeFrom boundary changes → PinsSoFar changes changes boundary old old
-pins-none changes boundary old change = record { chip = refl; later = λ k h. refl; change = change }
-
 pub pins-more : (changes rest : List PinChange) (boundary : ℕ) (old now next : Chip) (d : PinChange) → PinsSoFar changes rest boundary old now → 1 ≤ length rest
     → (get_or rest 0 d).at ≡ boundary → next ≡ with_change (get_or rest 0 d) now → PinsSoFar changes (take (length rest - 1) (drop 1 rest)) boundary old next
 pins-more changes [] boundary old now next d so some at e = absurd (omega arith)

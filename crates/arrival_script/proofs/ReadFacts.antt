@@ -1,15 +1,13 @@
 -- A text that is read line by line.
-use Rattle.std.proofs.Common.{◌≡◌, ℕ, ◌+◌, ◌<◌, ◌≤◌, Bool, true, false, cond, List, [], ◌∷◌, ◌++◌, length, Option, Some, None, Result, Ok, Err, refl, sym, ap, subst, ◌∙◌, arith}
+use Rattle.std.proofs.Common.{◌≡◌, ℕ, ◌+◌, ◌<◌, ◌≤◌, Bool, true, false, cond, List, [], ◌∷◌, ◌++◌, length, Option, Some, None, Result, Ok, refl, sym, ap, ◌∙◌, arith}
 use Rattle.std.specs.Str.Lines.{lines}
-use Rattle.std.proofs.lemmas.List.{append-nil, append_assoc}
-use Rattle.arrival_script.specs.declared.scripts.Script.{Script}
+use Rattle.std.proofs.lemmas.List.{append_assoc}
 use Rattle.arrival_script.specs.declared.scripts.Cause.{Cause}
 use Rattle.arrival_script.specs.declared.scripts.ScriptFault.{ScriptFault}
-use Rattle.arrival_script.specs.declared.scripts.ScriptFault.TheVariants as fault
 use Rattle.arrival_script.specs.declared.drafts.Draft.{Draft}
 use Rattle.text_parts.specs.Fields.{fields_of}
-use Rattle.arrival_script.specs.Scripts.{Line, Fault, States, FirstFault, Reads, is_told, told_from, told_lines, line_cause, fault_among, fault_at_end, first_fault}
-use Rattle.arrival_script.specs.Drafts.{IsDraftOf, Adds, Takes, Ends}
+use Rattle.arrival_script.specs.Scripts.{Line, Fault, is_told, told_from, told_lines, line_cause, fault_among}
+use Rattle.arrival_script.specs.Drafts.{IsDraftOf, Adds, Takes}
 
 -- What is known of a text where this rest is left, behind this many lines: the lines before are those of the draft, and no cause
 -- applies to them.
@@ -20,9 +18,6 @@ pub record ReadSoFar (bytes rest : List ℕ) (count : ℕ) (d : Draft) : Type 0 
   pub first : fault_among [] (told_lines bytes) ≡ fault_among seen (told_from (count + 1) (lines rest))
   pub total : length (lines bytes) ≡ count + length (lines rest)
   pub room : count + length rest ≤ length bytes
-
-pub read-none : (bytes : List ℕ) (d : Draft) → IsDraftOf [] d → ReadSoFar bytes bytes 0 d
-read-none bytes d is = record { seen = []; draft = is; told = refl; first = refl; total = omega arith; room = omega arith }
 
 abbrev line_at : ℕ → List ℕ → Line
 line_at n text = record { number = n; fields = fields_of text }
@@ -40,9 +35,6 @@ among-more before line more = go (line_cause before line)
 
 abbrev done : Result (Unit {0}) ScriptFault
 done = Ok tt
-
-abbrev failed : ScriptFault → Result (Unit {0}) ScriptFault
-failed f = Err f
 
 -- The lines from the first one of the rest on.
 told-rest : (rest text more : List ℕ) (n : ℕ) → lines rest ≡ text ∷ lines more → told_from n (lines rest) ≡ cond (is_told (fields_of text)) (line_at n text ∷ told_from (n + 1) (lines more)) (told_from (n + 1) (lines more))
@@ -77,55 +69,3 @@ read-more bytes rest count d text more new so e shorter takes = go (is_told (fie
         let later = told_from (count + 1 + 1) (lines more) in
         let from : told_from (count + 1) (lines rest) ≡ later = told-rest rest text more (count + 1) e ∙ ap (λ b. cond b (line ∷ later) later) h in
         record { seen = so.seen; draft = step.1; told = so.told ∙ ap (λ ls. so.seen ++ ls) from; first = so.first ∙ ap (fault_among so.seen) from; total = total; room = room }
-
--- The first fault, from that among the lines and that at the end.
-abbrev chosen : ℕ → List Line → Option Fault → Option Fault
-chosen count told (Some found) = Some found
-chosen count told None = fault_at_end count told
-
-first-chosen : (bytes : List ℕ) → first_fault bytes ≡ chosen (length (lines bytes)) (told_lines bytes) (fault_among [] (told_lines bytes))
-first-chosen bytes = go (fault_among [] (told_lines bytes))
-  where
-    go : (o : Option Fault) → elim o as (λ _. Option Fault) [ Some found ↦ Some found | None ↦ fault_at_end (length (lines bytes)) (told_lines bytes) ] ≡ chosen (length (lines bytes)) (told_lines bytes) o
-    go (Some found) = refl
-    go None = refl
-
-pub read-fault : (bytes rest : List ℕ) (count : ℕ) (d : Draft) (text more : List ℕ) (new : Draft) (so : ReadSoFar bytes rest count d) (f : ScriptFault) → lines rest ≡ text ∷ lines more
-    → Takes so.seen (line_at (count + 1) text) new (failed f) → Reads bytes (Err f)
-read-fault bytes rest count d text more new so fault.Memory e takes = tt
-read-fault bytes rest count d text more new so (fault.Line n cause) e takes = go (is_told (fields_of text)) refl takes
-  where
-    go : (b : Bool) → is_told (fields_of text) ≡ b
-        → elim b as (λ _. Type 0) [ true ↦ Adds so.seen (line_at (count + 1) text) new (failed (fault.Line n cause)) | false ↦ (failed (fault.Line n cause) ≡ Ok tt) × IsDraftOf so.seen new ]
-        → FirstFault bytes n cause
-    go true h step =
-        let line = line_at (count + 1) text in
-        let later = told_from (count + 1 + 1) (lines more) in
-        let from : told_from (count + 1) (lines rest) ≡ line ∷ later = told-rest rest text more (count + 1) e ∙ ap (λ b. cond b (line ∷ later) later) h in
-        first-chosen bytes
-        ∙ ap (chosen (length (lines bytes)) (told_lines bytes)) (so.first ∙ ap (fault_among so.seen) from ∙ among-more so.seen line later ∙ ap (λ o. after_cause o so.seen line later) step.1)
-        ∙ ap (λ m. Some (record { line = m; cause = cause })) (sym step.0)
-    go false h step = absurd (let s = step.0 in cc)
-
--- Behind the last line.
-pub read-end : (bytes rest : List ℕ) (count : ℕ) (d : Draft) (so : ReadSoFar bytes rest count d) (answer : Result Script ScriptFault) → lines rest ≡ []
-    → Ends count so.seen answer → Reads bytes answer
-read-end bytes rest count d so answer e ends = go answer ends
-  where
-    none : told_from (count + 1) (lines rest) ≡ []
-    none = ap (told_from (count + 1)) e
-
-    told : told_lines bytes ≡ so.seen
-    told = so.told ∙ ap (λ ls. so.seen ++ ls) none ∙ append-nil so.seen
-
-    total : length (lines bytes) ≡ count
-    total = let t = so.total in let l : length (lines rest) ≡ 0 = ap length e in omega arith
-
-    first : first_fault bytes ≡ fault_at_end count so.seen
-    first = first-chosen bytes ∙ ap (chosen (length (lines bytes)) (told_lines bytes)) (so.first ∙ ap (fault_among so.seen) none)
-        ∙ ap (λ n. fault_at_end n (told_lines bytes)) total ∙ ap (fault_at_end count) told
-
-    go : (a : Result Script ScriptFault) → Ends count so.seen a → Reads bytes a
-    go (Err fault.Memory) h = tt
-    go (Err (fault.Line line cause)) h = first ∙ h
-    go (Ok script) h = (first ∙ h.0, subst (λ ls. States ls script) (sym told) h.1, h.2)

@@ -43,10 +43,6 @@ none-later (a ∷ more) low k rise h =
     ap (λ b. cond b (set_of a.sources) (set_at more k)) (ne_eqb a.at k (λ e. let l = rise.0 in absurd (omega arith)))
     ∙ none-later more (a.at + 1) k rise.2 (let l = rise.0 in omega arith)
 
-pub no-pending : (pending : List Arrival) (k : ℕ) → length pending < 1 → set_of 0 ≡ set_at pending k
-no-pending [] k h = none-set
-no-pending (a ∷ more) k h = absurd (omega arith)
-
 pub later-pending : (pending : List Arrival) (k : ℕ) (d : Arrival) → RiseFrom k pending → 1 ≤ length pending → ((get_or pending 0 d).at ≡ k → ⊥) → set_of 0 ≡ set_at pending k
 later-pending [] k d rise h none = absurd (omega arith)
 later-pending (a ∷ more) k d rise h none =

@@ -102,9 +102,6 @@ module _ (n : ℕ) (es : List Edge) (k : ℕ) (rows : NodeLists) (so_far : AreUs
   pub free-after : IsFree rows (n + k)
   free-after j has = let w = passes (IsEdgeNode n k) (row rows j) (n + k) (so_far.within j) has in let below = w.1 in omega (arith, below)
 
-  pub free-before : (x : ℕ) → x < n → IsFree rows x
-  free-before x less j has = let w = passes (IsEdgeNode n k) (row rows j) x (so_far.within j) has in let above = w.0 in omega (arith, above, less)
-
   module _ (e : Edge) (t : ℕ) (less : k < length es) (is : get_or es k (record { user = 0; used = 0 }) ≡ e) (used : e.used ≡ t) (inside : t < n) where
     t-in : t < length rows.lists
     t-in = let a = so_far.lists in omega (arith, a, inside)

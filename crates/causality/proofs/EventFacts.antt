@@ -13,7 +13,7 @@ use Rattle.efrp_meaning.specs.Causal.{IsCausalOn}
 use Rattle.efrp_types.specs.Numbers.{event_name}
 use Rattle.causality.specs.declared.faults.CycleFault.{CycleFault}
 use Rattle.causality.specs.declared.faults.CycleFault.TheVariants.{Cycle, Memory}
-use Rattle.causality.specs.Answers.{OrdersOn, AreOrders, AllOrders}
+use Rattle.causality.specs.Answers.{OrdersOn, AllOrders}
 use Rattle.causality.specs.Orders.{IsOrder, IsFirstOn}
 use Rattle.causality.proofs.OrderFacts.{split-at}
 
@@ -27,24 +27,8 @@ with-last : {A : Type 0} (P : A → Type 0) (xs : List A) (x : A) → AllByRecur
 with-last P [] x all its = (its, tt)
 with-last P (y ∷ ys) x all its = (all.0, with-last P ys x all.1 its)
 
-take-all : {A : Type 0} (xs : List A) → take (length xs) xs ≡ xs
-take-all [] = refl
-take-all (x ∷ xs) = ap (λ ys. x ∷ ys) (take-all xs)
-
 module _ (p : ProgramTree) where
-  pub none-begun : Begun p 0 []
-  none-begun = record { len = refl; ordered = λ k less. absurd (omega (arith, less)); causal = tt }
-
   module _ (k : ℕ) (orders : List (List ℕ)) (so_far : Begun p k orders) where
-    pub all-begun : k ≤ length p.events → length p.events ≤ k → AreOrders p orders
-    all-begun most least =
-        let e : k ≡ length p.events = omega (arith, most, least) in
-        record {
-          len = so_far.len ∙ e;
-          ordered = λ event less. so_far.ordered event (omega (arith, less, e));
-          causal = subst (AllByRecursion (λ (e : Event). IsCausalOn p e.name)) (ap (λ n. take n p.events) e ∙ take-all p.events) so_far.causal;
-        }
-
     module _ (e : Event) (less : k < length p.events) (is : e ≡ get_or p.events k e) where
       at : slice_get p.events k ≡ Some e
       at = slice_get_read p.events (length p.events) k e refl less is

@@ -1,7 +1,7 @@
 -- Numbers in lists, and paths in graphs.
-use Rattle.std.specs.Prelude.{◌≡◌, ◌≢◌, ℕ, ◌<◌, suc, ◌⊎◌, Bool, true, false, ◌||◌, ◌&&◌, ◌==◌, List, [], ◌∷◌, ◌++◌, length, get_or, refl}
+use Rattle.std.specs.Prelude.{◌≡◌, ◌≢◌, ℕ, ◌<◌, ◌⊎◌, Bool, true, false, ◌||◌, ◌&&◌, ◌==◌, List, [], ◌∷◌, ◌++◌, length, get_or, refl}
 use Rattle.std.specs.List.{All, list_all}
-use Rattle.std.proofs.Common.{sym, ap, subst, ◌∙◌, arith}
+use Rattle.std.proofs.Common.{sym, ap, subst, ◌∙◌}
 use Rattle.std.proofs.lemmas.Bool.{and_parts, false≢true}
 use Rattle.std.proofs.lemmas.Bool.Decides.{eqb_tells}
 use Rattle.std.proofs.lemmas.List.{get_or_read}
@@ -46,19 +46,6 @@ one-fails test (x ∷ xs) fails = by_test (test x) refl fails (one-fails test xs
         → (n : ℕ) × (has (x ∷ xs) n ≡ true) × (test n ≡ false)
     by_test true e fails rest = let found = rest fails in (found.0, has-tail x xs found.0 found.1, found.2)
     by_test false e fails rest = (x, has-head x xs, e)
-
--- The place of a number that a list has.
-pub has-at : (xs : List ℕ) (n : ℕ) → has xs n ≡ true → (k : ℕ) × (k < length xs) × (get_or xs k 0 ≡ n)
-has-at [] n h = absurd (false≢true h)
-has-at (x ∷ xs) n h = by_number (eqb_tells x n) h (has-at xs n)
-  where
-    by_number : (((x == n) ≡ true) × (x ≡ n)) ⊎ (((x == n) ≡ false) × (x ≢ n)) → ((x == n) || has xs n) ≡ true → (has xs n ≡ true → (k : ℕ) × (k < length xs) × (get_or xs k 0 ≡ n))
-        → (k : ℕ) × (k < length (x ∷ xs)) × (get_or (x ∷ xs) k 0 ≡ n)
-    by_number (inl s) h rest = (0, omega arith, s.1)
-    by_number (inr s) h rest = let found = rest (sym (ap (λ b. b || has xs n) s.0) ∙ h) in (suc found.0, (let less = found.1 in omega (arith, less)), found.2)
-
-pub has-below : (most : ℕ) (xs : List ℕ) (n : ℕ) → All (λ m. m < most) xs → has xs n ≡ true → n < most
-has-below most xs n all h = let at = has-at xs n h in subst (λ m. m < most) at.2 (all at.0 0 at.1)
 
 -- A list in a row of lists, as it is read; and one of a graph, whose numbers are its own.
 pub list-at : (g : List (List ℕ)) (i : ℕ) (x y : List ℕ) → i < length g → x ≡ get_or g i x → y ≡ x → y ≡ edges g i

@@ -30,11 +30,6 @@ at-or-past ds i = by_case (slice_get_cases ds i).1
     by_case (inl w) = inl (w.0, w.2)
     by_case (inr w) = inr w.0
 
--- What holds at each place holds of each.
-each-of : {A : Type 0} (P : A → Type 0) (xs : List A) → ((i : ℕ) (x : A) → slice_get xs i ≡ Some x → P x) → AllByRecursion P xs
-each-of P [] each = tt
-each-of P (x ∷ xs) each = (each 0 x refl, each-of P xs (λ i y e. each (suc i) y e))
-
 each-number : (most : ℕ) (ns : List ℕ) → All (λ n. n < most) ns → AllByRecursion (λ n. n < most) ns
 each-number most [] all = tt
 each-number most (n ∷ ns) all = (all 0 n (omega arith), each-number most ns (λ k d less. all (suc k) d (omega (arith, less))))

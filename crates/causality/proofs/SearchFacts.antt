@@ -1,14 +1,12 @@
 -- The search for what a number leads to.
-use Rattle.std.specs.Prelude.{◌≡◌, ◌≢◌, ℕ, ◌⊎◌, Bool, true, false, not, ◌||◌, ◌&&◌, ◌==◌, List, [], ◌∷◌, ◌++◌, length, replicate, Option, Some, None, MatchOption, refl}
+use Rattle.std.specs.Prelude.{◌≡◌, ◌≢◌, ℕ, ◌⊎◌, Bool, true, false, not, ◌||◌, ◌&&◌, ◌==◌, List, [], ◌∷◌, ◌++◌, length, Option, Some, None, MatchOption, refl}
 use Rattle.std.specs.Bool.{MatchBool}
 use Rattle.std.proofs.Common.{sym, subst, ◌∙◌, arith}
 use Rattle.std.proofs.lemmas.Bool.{false≢true}
 use Rattle.std.proofs.lemmas.Bool.Decides.{eqb_tells}
-use Rattle.std.proofs.lemmas.List.{length-replicate}
 use mathlib.Core.Logic.{inl, inr}
 use Rattle.causality.specs.Graphs.{has, edges, Edge, Path, IsRound, is_marked, Marks}
 use Rattle.causality.proofs.GraphFacts.{has-push, path-on, closed-path}
-use Rattle.causality.proofs.MarkFacts.{none-marked}
 use Rattle.causality.proofs.ChoiceFacts.{either, or-left, or-right}
 
 -- What is found so far: the marked numbers are those that x leads to by a path, and the edges of each lead to such, but for
@@ -43,27 +41,6 @@ old-or-added false true false e = inr refl
 old-or-added o false false e = absurd (false≢true e)
 
 module _ (g : List (List ℕ)) (x : ℕ) where
-  pub search-begins : (marked : List Bool) (left : List ℕ) → Marks (edges g x) (replicate (length g) false) [] marked left → Searching g x marked left
-  search-begins marked left m = record {
-    len = m.len ∙ length-replicate (length g) false;
-    in_left = λ n h. elim (added false (has (edges g x) n) (is_marked (replicate (length g) false) n) (sym (m.adds n) ∙ h)) [
-      | inl e ↦ absurd (false≢true e)
-      | inr e ↦ m.marks n ∙ or-right (is_marked (replicate (length g) false) n) (has (edges g x) n) e
-    ];
-    begins = λ j edge. m.marks j ∙ or-right (is_marked (replicate (length g) false) j) (has (edges g x) j) edge;
-    closed = λ i h. elim (old-or-added false (has (edges g x) i) (is_marked (replicate (length g) false) i) (sym (m.marks i) ∙ h)) [
-      | inl e ↦ absurd (false≢true (sym (none-marked (length g) i) ∙ e))
-      | inr e ↦ inl (m.adds i ∙ e)
-    ];
-    sound = λ j h. (
-      [],
-      elim (either (is_marked (replicate (length g) false) j) (has (edges g x) j) (sym (m.marks j) ∙ h)) [
-        | inl e ↦ absurd (false≢true (sym (none-marked (length g) j) ∙ e))
-        | inr e ↦ e
-      ],
-    );
-  }
-
   module _ (y : ℕ) (marked : List Bool) (left : List ℕ) (so_far : Searching g x marked (left ++ y ∷ [])) where
     pub y-marked : is_marked marked y ≡ true
     y-marked = so_far.in_left y (has-push left y y ∙ or-right (has left y) (y == y) (same (eqb_tells y y)))

@@ -1,9 +1,9 @@
 -- An order that grows: each number is placed once, behind those to which it has an edge.
-use Rattle.std.specs.Prelude.{◌≡◌, ℕ, ◌+◌, ◌<◌, ◌⊎◌, Bool, true, false, ◌||◌, ◌==◌, List, [], ◌∷◌, ◌++◌, length, take, get_or, set, replicate, refl}
+use Rattle.std.specs.Prelude.{◌≡◌, ℕ, ◌+◌, ◌<◌, ◌⊎◌, Bool, true, false, ◌||◌, ◌==◌, List, [], ◌∷◌, ◌++◌, length, take, get_or, set, refl}
 use Rattle.std.specs.List.{All, count_by, list_all}
 use Rattle.std.proofs.Common.{sym, ap, subst, ◌∙◌, arith}
 use Rattle.std.proofs.lemmas.Bool.{eqb-true, false≢true}
-use Rattle.std.proofs.lemmas.List.{length-replicate, length-set, length-append, get_or_append_left, take-append-le}
+use Rattle.std.proofs.lemmas.List.{length-set, length-append, get_or_append_left, take-append-le}
 use Rattle.std.proofs.Math.Seq.{get_or-append_seam, take-append_seam}
 use Rattle.std.proofs.lemmas.List.Sums.{sum_by_push, AllPass-from_list_all}
 use Rattle.std.proofs.lemmas.List.Elements.{All-push}
@@ -11,7 +11,7 @@ use Rattle.std.proofs.lemmas.List.{get_or_past}
 use mathlib.Core.Logic.{inl, inr}
 use Rattle.causality.specs.Graphs.{has, edges, Edge, IsRound, is_marked, IsNext, IsSorted}
 use Rattle.causality.proofs.GraphFacts.{has-push, has-passes, all-pass, closed-path, first-edge}
-use Rattle.causality.proofs.MarkFacts.{marked-set, none-marked}
+use Rattle.causality.proofs.MarkFacts.{marked-set}
 use Rattle.causality.proofs.ChoiceFacts.{below-or-not, one_if, either, or-left}
 
 -- What is placed so far: the order has the placed numbers, and no path from these leads round.
@@ -23,17 +23,6 @@ pub record Sorting (g : List (List ℕ)) (placed : List Bool) (order : List ℕ)
   pub before : (k : ℕ) → k < length order → list_all (has (take k order)) (edges g (get_or order k 0)) ≡ true
   pub closed : (i : ℕ) → is_marked placed i ≡ true → (j : ℕ) → Edge g i j → is_marked placed j ≡ true
   pub no_round : (i : ℕ) → is_marked placed i ≡ true → ¬ IsRound g i
-
-pub sort-begins : (g : List (List ℕ)) → Sorting g (replicate (length g) false) []
-sort-begins g = record {
-  len = length-replicate (length g) false;
-  ordered = λ n. sym (none-marked (length g) n);
-  counts = λ n. sym (ap one_if (none-marked (length g) n));
-  within = λ k d less. absurd (omega (arith, less));
-  before = λ k less. absurd (omega (arith, less));
-  closed = λ i h. absurd (false≢true (sym (none-marked (length g) i) ∙ h));
-  no_round = λ i h. absurd (false≢true (sym (none-marked (length g) i) ∙ h));
-}
 
 once-more : (b c : Bool) → (c ≡ true → b ≡ false) → one_if b + one_if c ≡ one_if (b || c)
 once-more true true h = absurd (false≢true (sym (h refl)))

@@ -28,9 +28,6 @@ none-checked p checked = ap (λ fs. fs ++ type_faults p) checked.names ∙ check
 pub first-of-names : (p : ProgramTree) (fault : CheckFault) → IsFirst fault (name_faults p) → IsFirst fault (check_faults p)
 first-of-names p fault first = (first.0 ++ type_faults p, ap (λ fs. fs ++ type_faults p) first.1)
 
-pub first-of-types : (p : ProgramTree) (fault : CheckFault) → name_faults p ≡ [] → IsFirst fault (type_faults p) → IsFirst fault (check_faults p)
-first-of-types p fault none first = (first.0, ap (λ fs. fs ++ type_faults p) none ∙ first.1)
-
 pub no-first : (p : ProgramTree) (fault : CheckFault) → IsChecked p → ¬ IsFirst fault (check_faults p)
 no-first p fault checked first = let none = none-checked p checked in let is = first.1 in cc
 
@@ -112,21 +109,12 @@ module _ (p : Program) where
   pub names-fault : (told : CheckFault) → IsFirst told (name_faults (program_tree_of p)) ⊎ (told ≡ check.Memory) → Types p (Err (of_check told))
   names-fault told tells = told-check _ (first-of-names (program_tree_of p)) told (is_check_memory told) refl tells
 
-  pub types-fault : (told : CheckFault) → name_faults (program_tree_of p) ≡ [] → IsFirst told (type_faults (program_tree_of p)) ⊎ (told ≡ check.Memory) → Types p (Err (of_check told))
-  types-fault told none tells = told-check _ (λ f. first-of-types (program_tree_of p) f none) told (is_check_memory told) refl tells
-
 -- What comes of the passes together.
 pub found-typing : (text : List ℕ) (p : Program) (told : SourceFault) → SpellsOnly text (program_tree_of p) → Types p (Err told) → Found text (Err told)
 found-typing text p (source.Syntax f) spelled types = absurd types
 found-typing text p (source.Check f) spelled types = read-misused text (program_tree_of p) spelled f types
 found-typing text p (source.Cycle event name) spelled types = absurd types
 found-typing text p source.Memory spelled types = tt
-
-pub found-parsing : (text : List ℕ) (told : SourceFault) → Parses text (Err told) → Found text (Err told)
-found-parsing text (source.Syntax f) parses = parses
-found-parsing text (source.Check f) parses = absurd parses
-found-parsing text (source.Cycle event name) parses = absurd parses
-found-parsing text source.Memory parses = tt
 
 pub found-sorting : (text : List ℕ) (p : Program) (t : Typed) (answer : Result Checked SourceFault) → SpellsOnly text (program_tree_of p) → t.program ≡ p → Sorts t answer → Found text answer
 found-sorting text p t (Ok c) spelled same sorts =

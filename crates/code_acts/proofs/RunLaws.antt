@@ -14,10 +14,7 @@ pub run-append : (xs ys : List Act) (s : State) → run (xs ++ ys) s ≡ run ys 
 run-append [] ys s = refl
 run-append (x ∷ xs) ys s = run-append xs ys (step_in s.skip x s)
 
--- Like states are like themselves, and a state like both.
-pub like_itself : (uses : ℕ → Bool) (s : State) → Like uses s s
-like_itself uses s = record { w = refl; carry = refl; zero = refl; mem = λ n used. refl }
-
+-- A state that is like one, which is like a third, is like the third.
 pub like_both : (uses : ℕ → Bool) (s t u : State) → Like uses s t → Like uses t u → Like uses s u
 like_both uses s t u first second = record {
   w = first.w ∙ second.w;

@@ -1,5 +1,5 @@
 -- Lines and the places where they stand: parts, raised marks, and intervals of addresses.
-use Rattle.std.proofs.Common.{◌≡◌, ℕ, zero, suc, ◌+◌, ◌%◌, ◌≤◌, ◌<◌, ◌⊎◌, Bool, true, false, if◌then◌else◌, List, [], ◌∷◌, ◌++◌, map, ap, ap₂, ◌∙◌, sym, refl, subst, append_assoc, arith, inl, inr}
+use Rattle.std.proofs.Common.{◌≡◌, ℕ, zero, suc, ◌+◌, ◌%◌, ◌≤◌, ◌<◌, ◌⊎◌, Bool, true, false, if◌then◌else◌, List, [], ◌∷◌, ◌++◌, map, ap, ap₂, ◌∙◌, sym, refl, append_assoc, arith, inl, inr}
 use Rattle.std.proofs.lemmas.List.{map-append}
 use Rattle.pic_isa.specs.declared.instructions.Instr.{Instr}
 use Rattle.code_steps.specs.Steps.{next}
@@ -50,23 +50,6 @@ module _ (program marks : ℕ → ℕ) where
   placed-parts p q (PageLow m ∷ xs) ys placed = let rest = placed-parts (next p) q xs ys placed.1 in ((placed.0, rest.0), rest.1)
   placed-parts p q (PageHigh m ∷ xs) ys placed = let rest = placed-parts (next p) q xs ys placed.1 in ((placed.0, rest.0), rest.1)
   placed-parts p q (Goes m ∷ xs) ys placed = let rest = placed-parts (next p) q xs ys placed.2 in ((placed.0, placed.1, rest.0), rest.1)
-
-  pub placed-joined : (p r q : ℕ) (xs ys : List Line) → Placed program marks p xs r → Placed program marks r ys q → Placed program marks p (xs ++ ys) q
-  placed-joined p r q [] ys first second = subst (λ s. Placed program marks s ys q) (sym first) second
-  placed-joined p r q (Here m ∷ xs) ys first second = (first.0, placed-joined p r q xs ys first.1 second)
-  placed-joined p r q (Does i ∷ xs) ys first second = (first.0, placed-joined (next p) r q xs ys first.1 second)
-  placed-joined p r q (PageLow m ∷ xs) ys first second = (first.0, placed-joined (next p) r q xs ys first.1 second)
-  placed-joined p r q (PageHigh m ∷ xs) ys first second = (first.0, placed-joined (next p) r q xs ys first.1 second)
-  placed-joined p r q (Goes m ∷ xs) ys first second = (first.0, first.1, placed-joined (next p) r q xs ys first.2 second)
-
-  -- Where they end.
-  pub placed-ends : (p q : ℕ) (xs : List Line) → Placed program marks p xs q → q ≡ ending p xs
-  placed-ends p q [] placed = sym placed
-  placed-ends p q (Here m ∷ xs) placed = placed-ends p q xs placed.1
-  placed-ends p q (Does i ∷ xs) placed = placed-ends (next p) q xs placed.1
-  placed-ends p q (PageLow m ∷ xs) placed = placed-ends (next p) q xs placed.1
-  placed-ends p q (PageHigh m ∷ xs) placed = placed-ends (next p) q xs placed.1
-  placed-ends p q (Goes m ∷ xs) placed = placed-ends (next p) q xs placed.2
 
 -- The settings of a jump behind a skip instruction are counted with the jump and stand before the skip instruction.
 abbrev owed : (held paged : Bool) → List Item → ℕ
@@ -171,15 +154,6 @@ placed-raised program marks up p q (Does i ∷ xs) placed = (placed.0, placed-ra
 placed-raised program marks up p q (PageLow m ∷ xs) placed = (placed.0, placed-raised program marks up (next p) q xs placed.1)
 placed-raised program marks up p q (PageHigh m ∷ xs) placed = (placed.0, placed-raised program marks up (next p) q xs placed.1)
 placed-raised program marks up p q (Goes m ∷ xs) placed = (placed.0, placed.1, placed-raised program marks up (next p) q xs placed.2)
-
--- The addresses of words lie in their interval. Lines without words lie in each.
-within-none : (In : ℕ → Type 0) (p : ℕ) (xs : List Line) → line_words xs ≡ 0 → Within In p xs
-within-none In p [] none = tt
-within-none In p (Here m ∷ xs) none = within-none In p xs none
-within-none In p (Does i ∷ xs) none = absurd (omega arith)
-within-none In p (PageLow m ∷ xs) none = absurd (omega arith)
-within-none In p (PageHigh m ∷ xs) none = absurd (omega arith)
-within-none In p (Goes m ∷ xs) none = absurd (omega arith)
 
 -- No word, or an interval around them.
 abbrev Fits : ℕ → ℕ → ℕ → ℕ → Type 0

@@ -16,11 +16,6 @@ base-next paged (piece ∷ []) zero inside = omega arith
 base-next paged (piece ∷ other ∷ pieces) zero inside = omega arith
 base-next paged (piece ∷ pieces) (suc k) inside = omega (arith, base-next paged pieces k (omega (arith, inside)))
 
-base-step : (paged : Bool) (pieces : List (List Item)) (k : ℕ) → base paged pieces k ≤ base paged pieces (suc k)
-base-step paged [] k = omega arith
-base-step paged (piece ∷ pieces) zero = omega arith
-base-step paged (piece ∷ pieces) (suc k) = omega (arith, base-step paged pieces k)
-
 pub base-rises : (paged : Bool) (pieces : List (List Item)) (j k : ℕ) → j ≤ k → base paged pieces j ≤ base paged pieces k
 base-rises paged [] j k le = omega arith
 base-rises paged (piece ∷ pieces) zero zero le = omega arith

@@ -1,7 +1,6 @@
 -- Items that stand in program memory: in parts, at a mark, at an instruction, raised, and between two addresses.
-use Rattle.std.proofs.Common.{◌≡◌, ℕ, ◌+◌, ◌%◌, ◌≤◌, ◌<◌, Bool, true, false, if◌then◌else◌, List, [], ◌∷◌, ◌++◌, map, ap, ◌∙◌, sym, subst, append_assoc, arith, inr}
+use Rattle.std.proofs.Common.{◌≡◌, ℕ, ◌+◌, ◌%◌, ◌≤◌, ◌<◌, Bool, true, false, if◌then◌else◌, List, [], ◌∷◌, ◌++◌, map, ap, ◌∙◌, subst, append_assoc, arith}
 use Rattle.pic_isa.specs.declared.instructions.Instr.{Instr}
-use Rattle.code_steps.specs.Steps.{Is}
 use Rattle.code_steps.specs.Ends.{Between}
 use Rattle.code_items.specs.declared.items.Item.{Item}
 use Rattle.code_items.specs.declared.items.Item.TheVariants.{Ins, Mark}
@@ -10,9 +9,9 @@ use Rattle.pic_machine.specs.Chip.{Chip}
 use Rattle.code_steps.specs.Jumps.{Reaches}
 use Rattle.code_steps.proofs.JumpLaws.{reaches_first_page}
 use Rattle.code_items.specs.Items.{has_pages, is_skip, ends_skipping, raised, words_in}
-use Rattle.code_items.specs.Lines.{Does, ahead, lines, Placed, Stands, Within}
+use Rattle.code_items.specs.Lines.{Does, ahead, lines, Placed, Stands}
 use Rattle.code_items.proofs.ItemLaws.{words-append}
-use Rattle.code_items.proofs.LineLaws.{ending, ending-linear, placed-parts, placed-joined, placed-ends, words-lines, lines-append, lines-raised, placed-raised, within-lines}
+use Rattle.code_items.proofs.LineLaws.{ending, ending-linear, placed-parts, words-lines, lines-append, lines-raised, placed-raised}
 
 -- The place behind items that stand from `p` on.
 abbrev pub behind : (paged : Bool) → ℕ → List Item → ℕ
@@ -22,10 +21,6 @@ pub ending-items : (paged : Bool) (p : ℕ) (items : List Item) → p < 8192 →
 ending-items paged p items below = ending-linear p (lines false paged items) below ∙ ap (λ n. (p + n) % 8192) (words-lines paged items)
 
 module _ (paged : Bool) (program marks : ℕ → ℕ) where
-  -- Where they end.
-  pub stands-ends : (p q : ℕ) (items : List Item) → p < 8192 → Stands paged program marks p items q → q ≡ behind paged p items
-  stands-ends p q items below stands = placed-ends program marks p q (lines false paged items) stands ∙ ending-items paged p items below
-
   -- In parts, where the first part ends in no skip instruction; and put together.
   pub stands-parts : (p q : ℕ) (xs ys : List Item) → p < 8192 → ends_skipping false xs ≡ false → Stands paged program marks p (xs ++ ys) q
       → Stands paged program marks p xs (behind paged p xs) × Stands paged program marks (behind paged p xs) ys q
@@ -37,26 +32,10 @@ module _ (paged : Bool) (program marks : ℕ → ℕ) where
         subst (λ r. Placed program marks r (lines false paged ys) q) at parts.1,
       )
 
-  pub stands-joined : (p r q : ℕ) (xs ys : List Item) → ends_skipping false xs ≡ false → Stands paged program marks p xs r → Stands paged program marks r ys q
-      → Stands paged program marks p (xs ++ ys) q
-  stands-joined p r q xs ys ends first second =
-      subst (λ ls. Placed program marks p ls q) (sym (lines-append false paged xs ys ends))
-      (placed-joined program marks p r q (lines false paged xs) (lines false paged ys) first second)
-
   -- A mark has the address of the place where it stands.
   pub stands-mark : (p q m : ℕ) (xs ys : List Item) → p < 8192 → ends_skipping false xs ≡ false → Stands paged program marks p (xs ++ Mark m ∷ ys) q
       → marks m ≡ behind paged p xs
   stands-mark p q m xs ys below ends stands = (stands-parts p q xs (Mark m ∷ ys) below ends stands).1.0
-
-  -- An instruction that is no skip stands at the place behind the items before it.
-  plain_line : (i : Instr) (items : List Item) (r q : ℕ) (skip : Bool)
-      → Placed program marks r ((if skip then ahead paged items ++ Does i ∷ [] else Does i ∷ []) ++ lines skip paged items) q → skip ≡ false → Is program r i
-  plain_line i items r q true placed none = absurd (cc)
-  plain_line i items r q false placed none = placed.0
-
-  pub stands-ins : (p q : ℕ) (i : Instr) (xs ys : List Item) → p < 8192 → ends_skipping false xs ≡ false → is_skip i ≡ false
-      → Stands paged program marks p (xs ++ Ins i ∷ ys) q → Is program (behind paged p xs) i
-  stands-ins p q i xs ys below ends plain stands = plain_line i ys (behind paged p xs) q (is_skip i) (stands-parts p q xs (Ins i ∷ ys) below ends stands).1 plain
 
   -- At a skip instruction the settings of a jump directly behind it come first.
   skip_line : (i : Instr) (items : List Item) (r q : ℕ) (skip : Bool)
@@ -73,13 +52,6 @@ module _ (paged : Bool) (program marks : ℕ → ℕ) where
   pub stands-raised : (up p q : ℕ) (items : List Item) → Stands paged program marks p (map (raised up) items) q → Stands paged program (λ m. marks (m + up)) p items q
   stands-raised up p q items stands =
       placed-raised program marks up p q (lines false paged items) (subst (λ ls. Placed program marks p ls q) (lines-raised up false paged items) stands)
-
--- The words of items from `p` on lie between `p` and as many addresses on, where these are addresses.
-pub stands-between : (paged : Bool) (p : ℕ) (items : List Item) → p + words_in paged items ≤ 8192
-    → Within (Between p (p + words_in paged items)) p (lines false paged items)
-stands-between paged p items top =
-    let count = words-lines paged items in
-    within-lines p (p + words_in paged items) p (lines false paged items) top (inr (omega arith, omega (arith, count)))
 
 -- A mark before a word lies among the words of the items that it stands in.
 pub mark-between : (paged : Bool) (program marks : ℕ → ℕ) (p q m : ℕ) (xs ys : List Item) → p < 8192 → ends_skipping false xs ≡ false

@@ -21,22 +21,6 @@ others_frame = record {
   moved = λ place pclath c d r. record { pc = refl; rp1 = r.rp1; rp0 = r.rp0; pclath = refl };
 }
 
--- Changes elsewhere.
-pub keeps_frame : (uses : ℕ → Type 0) → IsFrame (Keeps uses)
-keeps_frame uses = record {
-  same = λ c. record { pc = refl; w = refl; status = refl; pclath = refl; cells = λ address used. refl };
-  pc = λ c d r. r.pc;
-  pclath = λ c d r. r.pclath;
-  joined = λ c d e r s. record {
-    pc = s.pc ∙ r.pc;
-    w = s.w ∙ r.w;
-    status = s.status ∙ r.status;
-    pclath = s.pclath ∙ r.pclath;
-    cells = λ address used. s.cells address used ∙ r.cells address used;
-  };
-  moved = λ place pclath c d r. record { pc = refl; w = r.w; status = r.status; pclath = refl; cells = r.cells };
-}
-
 -- Arrivals alone.
 pub alone_frame : IsFrame Alone
 alone_frame = record {

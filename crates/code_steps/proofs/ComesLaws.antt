@@ -1,5 +1,5 @@
 -- What code comes to: in more steps, with weaker promises, one piece after another, and from a chip that others have changed.
-use Rattle.std.proofs.Common.{◌≡◌, ℕ, zero, suc, ◌+◌, ◌≤◌, Some, subst, arith, inl, inr}
+use Rattle.std.proofs.Common.{◌≡◌, ℕ, zero, suc, ◌+◌, ◌≤◌, subst, arith, inl, inr}
 use Rattle.pic_isa.specs.declared.instructions.Instr.{Instr}
 use Rattle.pic_machine.specs.Chip.{Chip}
 use Rattle.pic_machine.specs.Results.{Done}
@@ -48,11 +48,6 @@ module _ (program : ℕ → ℕ) where
   comes_then R G P Q (suc k) m c (inr goes) then_on =
       let count : suc (k + m) ≡ suc k + m = omega arith in
       subst (λ n. Comes program R G Q n c) count (inr (λ d r. let step = goes d r in (step.0, step.1, step.2, comes_then R G P Q k m step.0.chip step.3 then_on)))
-
-  -- One own step, on each chip that R leads to.
-  pub comes_once : (R : Chip → Chip → Type 0) (G : Chip → Done → Type 0) (Q : Chip → Type 0) (k : ℕ) (c : Chip)
-      → ((d : Chip) → R c d → (done : Done) × (own program d ≡ Some done) × G d done × Comes program R G Q k done.chip) → Comes program R G Q (suc k) c
-  comes_once R G Q k c goes = inr goes
 
   -- What R keeps and each step keeps holds at the end too.
   pub comes_keeping : (R : Chip → Chip → Type 0) (G : Chip → Done → Type 0) (Q I : Chip → Type 0)

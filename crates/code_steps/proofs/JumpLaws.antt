@@ -194,9 +194,3 @@ first_page_low t below = ne_eqb (t / 2048 % 2) 1 (λ e. omega arith)
 pub reaches_first_page : (paged : Bool) (t : ℕ) (c : Chip) → t < 2048 → c.regs.pclath.b4 ≡ false → c.regs.pclath.b3 ≡ false → Reaches paged t c
 reaches_first_page true t c below high low = tt
 reaches_first_page false t c below high low = (high ∙ sym (first_page_high t below), low ∙ sym (first_page_low t below))
-
--- What may come between doesn't change what a jump reaches.
-pub reaches_stays : (R : Chip → Chip → Type 0) (frame : IsFrame R) (paged : Bool) (t : ℕ) (c d : Chip) → R c d → Reaches paged t c → Reaches paged t d
-reaches_stays R frame true t c d r page = tt
-reaches_stays R frame false t c d r page =
-    let same : d.regs.pclath ≡ c.regs.pclath = frame.pclath c d r in (ap (λ (b : Byte). b.b4) same ∙ page.0, ap (λ (b : Byte). b.b3) same ∙ page.1)

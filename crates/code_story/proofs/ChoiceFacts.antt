@@ -18,7 +18,6 @@ use Rattle.timed_core.specs.Steps.Phase.{Chooses, Begins}
 use Rattle.timed_core.specs.Steps.Label.{Stays, Clears}
 use Rattle.timed_core.specs.Shape.{Shape, Tower}
 use Rattle.core_story.specs.Values.{Values}
-use Rattle.core_story.specs.Interface.{flag_at}
 use Rattle.code_steps.specs.declared.banks.Bank.{Bank}
 use Rattle.code_steps.specs.declared.banks.Bank.TheVariants.{Known}
 use Rattle.code_steps.specs.Steps.{own, next}
@@ -49,9 +48,6 @@ use Rattle.code_story.proofs.ToldFacts.{NextFrom, Shows, told_by, still_shows, r
 module _ (f : Code) (g : ℕ → Bool) (st : List Run) (v : Values) (outer : Outer) (c : Chip) (tower : Tower f.t st) (above : Above f.t g (top_level f.t st)) where
   abbrev x : Chip
   x = with_outer outer c
-
-  abbrev now : ℕ → Bool
-  now = flag_at f.m x.regs
 
   some_above : (y : ℕ) → 0 < f.l.level y → f.l.level y ≤ level_of_top f.l st → (e : ℕ) × (f.l.level y < f.l.level e)
   some_above y real low = let higher : level_of_top f.l st < f.l.level above.0 = above_its_top f st above.0 above.2 in (above.0, omega (arith, low, higher))

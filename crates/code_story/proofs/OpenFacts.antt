@@ -25,7 +25,6 @@ use Rattle.glue_steps.proofs.StillLaws.{still_flags}
 use Rattle.firmware_parts.specs.Layout.{piece}
 use Rattle.firmware_parts.specs.Layout.Part.{Lock, Open, Commit}
 use Rattle.firmware_parts.specs.Runs.{Leads, AtOpen, Opened, Reacts}
-use Rattle.code_story.specs.Arranged.{StandsAlone}
 use Rattle.code_story.specs.Code.{Code}
 use Rattle.code_story.specs.Relation.{level_of_top, InRun, Beginning, ShortAtOpen, InWindow, Sim}
 use Rattle.code_story.proofs.ArrangedFacts.{above_its_top, highest}
@@ -68,10 +67,6 @@ module _ (f : Code) (r : Run) (rs : List Run) (v : Values) (outer : Outer) (c : 
       easy = page_stays f (Open e) real outer c done step refl ends.easy;
       leads = opened.copies;
     }
-
-    -- The place of the open is this event's alone.
-    alone : StandsAlone f.l (Open e) (f.l.opens e)
-    alone = f.arranged.places.opens e real
 
     opens_it : (y : ℕ) → 0 < f.l.level y → (c.pc == f.l.opens y) ≡ (y == e)
     opens_it y its = by (cases_eq y e)

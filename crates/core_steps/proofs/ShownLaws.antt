@@ -27,7 +27,6 @@ use Rattle.core_story.specs.Story.{Story}
 use Rattle.core_story.proofs.CountLaws.{clears_is, commits_event}
 use Rattle.core_story.proofs.ItemLaws.{event_with_level}
 use Rattle.core_steps.specs.LogSteps.{numbers_where, clearing, committing, is_return, turns_on}
-use Rattle.core_steps.specs.Tied.{committed_events}
 
 -- The numbers of the events that pass a test: none, or one.
 pub numbers_none : (es : List MapEvent) (test : MapEvent → Bool) (k : ℕ) → ((x : ℕ) (e : MapEvent) → item es x ≡ Some e → test e ≡ false) → numbers_where test k es ≡ []
@@ -77,10 +76,6 @@ module _ (t : Timing) (flags : ℕ → Bool) where
   clears_real h (moves.clears {h = x} set best above) same = let it : x ≡ h = cc in subst (λ y. 0 < t.level y) it (omega (arith, above))
   clears_real h _ same = let it = same in absurd cc
 
-  no_turn : (on : Bool) → (not on && false) ≡ false
-  no_turn true = refl
-  no_turn false = refl
-
   turning : {ph ph' : Phase} {l : Label} {st st' : List Run} → Move t flags ph l st ph' st' → (not (is_on ph) && is_on ph' && not (stories.is_return l)) ≡ is_turning l
   turning (moves.locks {r = r} h) = refl
   turning (moves.owes_takes {on = true}) = refl
@@ -123,10 +118,6 @@ module _ (p : ProgramTree) (m : Map) (t : Timing) (log : Log) (story : Story p m
 
   pub committing_is : (n : ℕ) → committing m (log n) ≡ committed_by (tale.label n)
   committing_is n = committing_by_label m (tale.label n) (log n) (story.told n).committed (commits_event p m t log story n)
-
-  pub committed_events_are : (n : ℕ) → committed_events m log n ≡ commits tale n
-  committed_events_are zero = refl
-  committed_events_are (suc n) = ap₂ (λ a b. a ++ b) (committed_events_are n) (committing_is n)
 
   pub returns_is : (n : ℕ) → is_return (log n).did ≡ stories.is_return (tale.label n)
   returns_is n = same_return (log n).did ∙ (story.told n).returns_is

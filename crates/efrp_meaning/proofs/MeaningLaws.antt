@@ -2,11 +2,10 @@
 use Rattle.std.specs.Prelude.{◌≡◌, ℕ, zero, suc, List, [], ◌∷◌, ◌++◌, Option, Some, None, Bool, true, false, refl, option_map, option_and_then, if◌then◌else◌}
 use Rattle.std.specs.Str.{bytes_eq}
 use Rattle.std.proofs.Common.{sym, ap, ◌∙◌}
-use Rattle.std.proofs.lemmas.List.Sums.{fold-append}
 use Rattle.frp_tree.specs.Tree.{Tree, Const, Name, Unary, Binary, Shift, If, Convert, Look, DeclTree, ProgramTree}
 use Rattle.efrp_meaning.specs.Decls.{decl_named}
 use Rattle.efrp_meaning.specs.Values.{unary_value, binary_value, shift_value, if_value, convert_value}
-use Rattle.efrp_meaning.specs.Meaning.{State, Samples, Occurrence, map_two, map_three, Rule, Always, Sampled, Tabled, Now, Later, Stays, rule_on, old_state, sample_of, modulus_of, look_value, evaluate, stands_for, value_by, value_on, expression_on, initial_state, and_then_on, serial}
+use Rattle.efrp_meaning.specs.Meaning.{State, Samples, map_two, map_three, Rule, Always, Sampled, Tabled, Now, Later, Stays, rule_on, old_state, sample_of, modulus_of, look_value, evaluate, stands_for, value_by, value_on, expression_on, serial}
 
 module _ (p : ProgramTree) (s : State) (j : Samples) (event x : List ℕ) (k : ℕ) (d : DeclTree) (found : decl_named p.decls x ≡ Some d) where
   -- The value of a definition by its rule, one deeper than those of the definitions that it names.
@@ -24,10 +23,6 @@ module _ (p : ProgramTree) (s : State) (j : Samples) (event x : List ℕ) (k : �
 
   pub value_on-stays : rule_on event d.behaviour ≡ Stays → value_on p s j event x (suc k) ≡ old_state p s x
   value_on-stays rule = rw (found, rule) refl
-
--- One more event: its reaction goes on from the state after those before it.
-pub serial-append : (p : ProgramTree) (events : List Occurrence) (event : Occurrence) → serial p (events ++ event ∷ []) ≡ and_then_on p (serial p events) event
-serial-append p events event = fold-append (and_then_on p) (option_map (λ s. record { state = s; ports = [] }) (initial_state p)) events (event ∷ [])
 
 -- Where the first is defined, so is the second, and has the same value.
 abbrev IsKept : Option ℕ → Option ℕ → Type 0

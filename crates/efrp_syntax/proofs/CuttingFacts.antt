@@ -19,9 +19,6 @@ pub record HasCut (text rest : List ℕ) (after : Bool) (found : List Token) : T
   pub within : AllByRecursion IsWithin found
   pub shorter : length rest ≤ length text
 
-pub cut_start : (text : List ℕ) → HasCut text text false []
-cut_start text = record { goes_on = λ ts last end c. c; within = tt; shorter = omega arith }
-
 pub skip_shorter : (text more : List ℕ) → Skips text more → length more < length text
 skip_shorter text more (inl s) = omega (arith, ap length s.spelled)
 skip_shorter text more (inr s) = omega (arith, ap length s.spelled, length-append s.body more)

@@ -123,10 +123,6 @@ type_like {ts = ts} t here = record { into = into; from = from; stops = λ c h. 
         let one : e ≡ t = one_type e t same in
         subst (Seq (Tok (word (type_name t))) (λ u. Done t) e) (sym (o.whole ∙ ap (λ x. word (type_name x) ∷ []) one)) (opening tt tt (record { value = one; whole = refl }))
 
-pub type_told : {ts rest : List Token} {w : List ℕ} {before after : List Begun} (t : Ty) → head ts ≡ Some (Word (type_name t)) → w ≡ type_name t → Found (Tok (word w)) Anything ts tt rest before after → Found TypeOf Anything ts t rest before after
-type_told {ts = ts} {rest = rest} {before = before} {after = after} t here e f =
-    found_like (type_like t here) (found_next (fits_any (λ u. some_done t)) (subst (λ x. Found (Tok (word x)) Anything ts tt rest before after) e f) (found_done Anything rest t after))
-
 pub type_failed : {ts : List Token} {w : List ℕ} {before after : List Begun} {stop : Stop} (t : Ty) → head ts ≡ Some (Word (type_name t)) → w ≡ type_name t → Fails (Tok (word w)) Anything ts before after stop → Fails TypeOf Anything ts before after stop
 type_failed {ts = ts} {before = before} {after = after} {stop = stop} t here e f =
     fails_like (type_like t here) (fails_first (fits_any (λ u. some_done t)) (subst (λ x. Fails (Tok (word x)) Anything ts before after stop) e f))
@@ -142,16 +138,6 @@ later_like {ts = ts} here = record { into = into; from = from; stops = λ c h. t
     from : (e : Bool) (w : List Cell) (c : List Token) → Later e w → Ends (StartsWord (codes "later")) c → head (tokens_of w ++ c) ≡ head ts → Seq (Tok (word (codes "later"))) (λ u. Done true) e w
     from true w c o a h = subst (Seq (Tok (word (codes "later"))) (λ u. Done true) true) (sym o) (opening tt tt (closing true))
     from false w c o a h = absurd (a (sym (ap (λ cs. head (tokens_of cs ++ c)) o) ∙ h ∙ here))
-
-pub soon_like : {ts : List Token} → (head ts ≡ Some (Word (codes "later")) → ⊥) → Like (Done false) (Ends (StartsWord (codes "later"))) Later (Ends (StartsWord (codes "later"))) ts
-soon_like {ts = ts} here = record { into = into; from = from; stops = λ c h. h }
-  where
-    into : (e : Bool) (w : List Cell) → Done false e w → Later e w
-    into e w d = d.whole ∙ ap later_cells (sym d.value)
-
-    from : (e : Bool) (w : List Cell) (c : List Token) → Later e w → Ends (StartsWord (codes "later")) c → head (tokens_of w ++ c) ≡ head ts → Done false e w
-    from true w c o a h = absurd (here (sym h ∙ ap (λ cs. head (tokens_of cs ++ c)) o))
-    from false w c o a h = record { value = refl; whole = o }
 
 -- Clauses.
 
@@ -314,10 +300,6 @@ entries_stop {found = found} {after = after} stop number n h p f =
 pub entries_all : {start found : List Lit} {ts rest : List Token} {before mid : List Begun}
     → HasEntries start ts rest before mid found → (head rest ≡ Some (Mark mark.COMMA) → ⊥) → Found (EntriesBehind start) (Ends (StartsMark mark.COMMA)) ts found rest before mid
 entries_all {found = found} {rest = rest} {mid = mid} h n = h.finding found rest mid (found_like (entries_like_done found n) (found_done (Ends (StartsMark mark.COMMA)) rest found mid))
-
-pub first_left : (rest : List Token) (t : Token) → head rest ≡ Some t → 1 ≤ length rest
-first_left [] t e = cc
-first_left (x ∷ rest) t e = omega arith
 
 -- The forms.
 

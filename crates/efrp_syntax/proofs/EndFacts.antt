@@ -87,14 +87,8 @@ stops_mark l k c h n = record {
 word_no_mark : {x : List ℕ} {k : ℕ} → Some (Word x) ≡ Some (Mark k) → ⊥
 word_no_mark e = cc
 
-none_no_mark : {k : ℕ} → None ≡ Some (Mark k) → ⊥
-none_no_mark e = cc
-
 pub stops_word : (l : Level) (x : List ℕ) (c : List Token) → Stops l (Word x ∷ c)
 stops_word l x c = record { no_index = word_no_mark; looser = λ op e. absurd (word_no_mark e); looser_shift = λ side e. absurd (word_no_mark e) }
-
-pub stops_end : (l : Level) → Stops l []
-stops_end l = record { no_index = none_no_mark; looser = λ op e. absurd (none_no_mark e); looser_shift = λ side e. absurd (none_no_mark e) }
 
 -- An operator ends what binds more tightly.
 

@@ -4,14 +4,6 @@ use Rattle.frp_tree.specs.declared.kinds.Kind.{Kind}
 use Rattle.frp_tree.specs.declared.kinds.Kind.TheVariants.{Events, Setups, Definitions, Outputs, Nodes, Entries}
 use Rattle.frp_tree.specs.Cells.{is_kind}
 
-pub is_same : (kind : Kind) → is_kind kind kind ≡ true
-is_same Events = refl
-is_same Setups = refl
-is_same Definitions = refl
-is_same Outputs = refl
-is_same Nodes = refl
-is_same Entries = refl
-
 pub same_kind : (a b : Kind) → is_kind a b ≡ true → a ≡ b
 same_kind Events Events e = refl
 same_kind Setups Setups e = refl

@@ -1,9 +1,8 @@
 -- Steps in a row, as a loop reads them: what comes of the rest comes of the whole. The things of a row are such steps.
 use Rattle.std.proofs.Common.{◌≡◌, ◌≢◌, List, [], ◌∷◌, ◌++◌, refl, sym, ap, subst, ◌∙◌}
-use Rattle.std.proofs.lemmas.List.{append-nil, append_assoc}
 use Rattle.frp_tree.specs.declared.tokens.Token.{Token}
 use Rattle.frp_tree.specs.Cells.{Cell, tokens_of}
-use Rattle.frp_tree.specs.Grammar.{Row, none, next}
+use Rattle.frp_tree.specs.Grammar.{none, next}
 use Rattle.efrp_syntax.specs.declared.begun.Begun.{Begun}
 use Rattle.efrp_syntax.specs.declared.begun.Stop.{Stop}
 use Rattle.efrp_syntax.specs.Answers.{head, Found, Fails, Done, Seq, Fits, Like}
@@ -74,34 +73,3 @@ pub record Adds {A : Type 0} (Item : A → List Cell → Type 0) (xs ys : List A
   pub item : A
   pub spelled : Item item w
   pub added : ys ≡ xs ++ item ∷ []
-
-pub steps_of_row : {A : Type 0} {Item : A → List Cell → Type 0} {xs : List A} {w : List Cell} → (front : List A) → Row Item xs w → Steps (Adds Item) front (front ++ xs) w
-steps_of_row {Item = Item} front none = subst (λ ys. Steps (Adds Item) front ys []) (sym (append-nil front)) ends
-steps_of_row {Item = Item} front (next {x = x} {xs = xs} us vs i r) =
-    subst (λ ys. Steps (Adds Item) front ys (us ++ vs)) (append_assoc front (x ∷ []) xs) (goes us vs (record { item = x; spelled = i; added = refl }) (steps_of_row (front ++ x ∷ []) r))
-
-pub record RowFrom {A : Type 0} (Item : A → List Cell → Type 0) (front ys : List A) (w : List Cell) : Type 0 where
-  pub xs : List A
-  pub row : Row Item xs w
-  pub whole : ys ≡ front ++ xs
-
-row_from : {A : Type 0} {Item : A → List Cell → Type 0} {front ys : List A} {w : List Cell} → Steps (Adds Item) front ys w → RowFrom Item front ys w
-row_from {front = front} ends = record { xs = []; row = none; whole = sym (append-nil front) }
-row_from {front = front} (goes us vs s g) = let r = row_from g in record {
-  xs = s.item ∷ r.xs;
-  row = next us vs s.spelled r.row;
-  whole = r.whole ∙ ap (λ zs. zs ++ r.xs) s.added ∙ append_assoc front (s.item ∷ []) r.xs;
-}
-
-pub row_of_steps : {A : Type 0} {Item : A → List Cell → Type 0} {ys : List A} {w : List Cell} → Steps (Adds Item) [] ys w → Row Item ys w
-row_of_steps {Item = Item} {w = w} s = let r = row_from s in subst (λ zs. Row Item zs w) (sym r.whole) r.row
-
-pub row_like : {A : Type 0} (Item : A → List Cell → Type 0) (T : List Token → Type 0) (ts : List Token) → Like (Steps (Adds Item) []) T (Row Item) T ts
-row_like Item T ts = record { into = λ e w s. row_of_steps s; from = λ e w c r t h. steps_of_row [] r; stops = λ c t. t }
-
--- A row begins with nothing read.
-pub row_starts : {A : Type 0} (Item : A → List Cell → Type 0) (T : List Token → Type 0) (ts : List Token) (before : List Begun) → IsUpTo (Adds Item) (Row Item) T ts ts [] before before
-row_starts Item T ts before = record {
-  failing = λ after stop f. fails_like (row_like Item T ts) f;
-  finding = λ end e after f. found_like (row_like Item T ts) f;
-}

@@ -277,12 +277,6 @@ stuck_odd (odd s) = s
 stuck_deep : {ts : List Token} {n : ℕ} {start notes : List Begun} → Fails SpellsProgram IsEnd ts start notes (stop.TooDeep n) → Stuck Deep SpellsProgram IsEnd ts n start notes
 stuck_deep (deep_stop s) = s
 
-pub odd_left : {ts : List Token} {n : ℕ} {start notes : List Begun} → Fails SpellsProgram IsEnd ts start notes (stop.Unexpected n) → n ≤ length ts
-odd_left {ts = ts} {n = n} f = let s = stuck_odd f in omega (arith, used_long ts s.tail s.used n s.split s.left)
-
-pub deep_left : {ts : List Token} {n : ℕ} {start notes : List Begun} → Fails SpellsProgram IsEnd ts start notes (stop.TooDeep n) → n ≤ length ts
-deep_left {ts = ts} {n = n} f = let s = stuck_deep f in omega (arith, used_long ts s.tail s.used n s.split s.left)
-
 pub unexpected_many : {ts : List Token} {n : ℕ} {start notes slice : List Begun} {fault : SyntaxFault} → start ≡ [] → slice ≡ notes → Fails SpellsProgram IsEnd ts start notes (stop.Unexpected n) → Many slice fault → Told ts (Err fault)
 unexpected_many {ts = ts} {n = n} {start = start} {notes = notes} {slice = slice} e f g m =
     subst (λ x. Told ts (Err x)) (sym m.1) (odd_many m.0 (same_notes start notes slice (λ x y. Stuck Odd SpellsProgram IsEnd ts n x y) e f (stuck_odd g)) m.2)

@@ -235,10 +235,6 @@ deep_one cell Is S ts rest x before split is low =
     (record { cell = cell x; after = []; whole = refl; token = ap head split; deep = low x })
     (λ other w c more o s h p. record { before = []; cell = cell other; after = []; whole = o.whole; «at» = refl; deep = low other }))
 
-pub found_tok : (cell : Cell) (S : List Token → Type 0) (ts rest : List Token) (before after : List Begun)
-    → ts ≡ cell.token ∷ rest → cell.opens ≤ DEEPEST_NESTING → after ≡ before ++ begun cell ∷ [] → Found (Tok cell) S ts tt rest before after
-found_tok cell S ts rest before after split low noted = found_one (λ u. cell) (λ u. Unit {0}) S ts rest tt before after split tt low noted (λ other i p. refl)
-
 pub stuck_tok : (cell : Cell) (S : List Token → Type 0) (ts : List Token) (before : List Begun) → head ts ≢ Some cell.token → Fails (Tok cell) S ts before before (Unexpected (length ts))
 stuck_tok cell S ts before none = stuck_one (λ u. cell) (λ u. Unit {0}) S ts tt before tt (λ other i. none)
 

@@ -19,7 +19,7 @@ use Rattle.efrp_syntax.specs.Answers.{begun, IsShallow, IsDeepAt, Fails, odd, de
 use Rattle.efrp_syntax.specs.Items.{IsEnd}
 use Rattle.efrp_syntax.specs.Places.{IsTokenPlace}
 use Rattle.efrp_syntax.specs.Programs.{AreNoted, ReadWhole, HasFew, IsFirstTooManyAt}
-use Rattle.efrp_syntax.proofs.CuttingFacts.{HasCut, cut_start, cut_skip, cut_prefix, cut_end, reaches}
+use Rattle.efrp_syntax.proofs.CuttingFacts.{HasCut, cut_skip, cut_prefix, cut_end, reaches}
 use Rattle.efrp_syntax.proofs.ParsedFacts.{many_told, many_placed, found_begins, found_tree, odd_told, deep_told}
 
 -- So far a text has been cut, and so many tokens are left up to the one with this number.
@@ -27,9 +27,6 @@ pub record HasPassed (text rest : List ℕ) (after : Bool) (left n : ℕ) : Type
   pub found : List Token
   pub cut : HasCut text rest after found
   pub count : length found + left ≡ n
-
-pub passed_start : (text : List ℕ) (n : ℕ) → HasPassed text text false n n
-passed_start text n = record { found = []; cut = cut_start text; count = omega arith }
 
 pub passed_skip : (text rest more : List ℕ) (after : Bool) (left n : ℕ) → HasPassed text rest after left n → Skips rest more → HasPassed text more false left n
 passed_skip text rest more after left n h s = record { found = h.found; cut = cut_skip text rest more after h.found h.cut s; count = h.count }

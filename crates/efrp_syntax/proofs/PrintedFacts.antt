@@ -2,9 +2,6 @@
 use Rattle.std.proofs.Common.{◌≡◌, ℕ, ◌-◌, ◌+◌, ◌≤◌, List, [], ◌∷◌, ◌++◌, length, take, get_or, reverse, sym, ap, ◌∙◌, arith}
 use Rattle.std.proofs.lemmas.List.{append_assoc, reverse-append, take_more}
 use Rattle.std.proofs.Math.Seq.{take-length}
-use Rattle.std.proofs.lemmas.Grind.{flat_map-append}
-use Rattle.frp_tree.specs.declared.tokens.Token.{Token}
-use Rattle.frp_tree.specs.Printed.{spelling, spaced}
 
 -- The last byte in front goes over to the text behind.
 pub last_moved : (front items new text : List ℕ) (d : ℕ) → 1 ≤ length front → new ≡ items ++ get_or front (length front - 1) d ∷ [] → front ++ reverse items ≡ text → take (length front - 1) front ++ reverse new ≡ text
@@ -15,6 +12,3 @@ last_moved front items new text d some e h =
   where
     whole : take (length front - 1) front ++ get_or front (length front - 1) d ∷ [] ≡ front
     whole = let n : length front - 1 + 1 ≡ length front = omega arith in sym (take_more front (length front - 1) d (omega arith)) ∙ ap (λ k. take k front) n ∙ take-length front
-
-pub spaced_more : (ts us : List Token) (text : List ℕ) → spaced ts ++ (spaced us ++ text) ≡ spaced (ts ++ us) ++ text
-spaced_more ts us text = sym (append_assoc (spaced ts) (spaced us) text) ∙ ap (λ x. x ++ text) (sym (flat_map-append (λ t. spelling t ++ 32 ∷ []) ts us))

@@ -9,7 +9,7 @@ use Rattle.efrp_types.specs.declared.faults.CheckFault.{CheckFault}
 use Rattle.efrp_types.specs.declared.faults.CheckFault.TheVariants.{Memory}
 use Rattle.efrp_types.specs.NameFaults.{each_after}
 use Rattle.efrp_types.specs.Answers.{IsFirst, Tells, TellsType}
-use Rattle.efrp_types.specs.TypeFaults.{node_of_one, node_of_two, node_of_three}
+use Rattle.efrp_types.specs.TypeFaults.{node_of_one}
 
 -- What the first part tells, the whole tells; and what the rest tells where the first part has no fault.
 first-tells : (xs ys : List CheckFault) (fault : CheckFault) → IsFirst fault xs ⊎ (fault ≡ Memory) → IsFirst fault (xs ++ ys) ⊎ (fault ≡ Memory)
@@ -45,26 +45,6 @@ HasType faults o t = (faults ≡ []) × (o ≡ Some t)
 
 pub as-told : {B : Type 0} (f : Ty → List CheckFault) (xs : List CheckFault) (o : Option Ty) (a : Ty) (r : Result B CheckFault) → HasType xs o a → Tells (f a) r → Tells (xs ++ node_of_one f o) r
 as-told f xs o a r its tells = subst (λ k. Tells (xs ++ node_of_one f k) r) (sym its.1) (rest-tells xs (f a) r its.0 tells)
-
-pub one-told : (f : Ty → List CheckFault) (g : Option Ty → Option Ty) (xs : List CheckFault) (o : Option Ty) (a : Ty) (r : Result Ty CheckFault)
-    → HasType xs o a → TellsType (f a) (g (Some a)) r → TellsType (xs ++ node_of_one f o) (g o) r
-one-told f g xs o a r its tells = subst (λ k. TellsType (xs ++ node_of_one f k) (g k) r) (sym its.1) (rest-type xs (f a) (g (Some a)) r its.0 tells)
-
-pub two-told : (f : Ty → Ty → List CheckFault) (g : Option Ty → Option Ty → Option Ty) (xs ys : List CheckFault) (o k : Option Ty) (a b : Ty) (r : Result Ty CheckFault)
-    → HasType xs o a → HasType ys k b → TellsType (f a b) (g (Some a) (Some b)) r → TellsType (xs ++ (ys ++ node_of_two f o k)) (g o k) r
-two-told f g xs ys o k a b r its other tells =
-    subst (λ m. TellsType (xs ++ (ys ++ node_of_two f m k)) (g m k) r) (sym its.1)
-    (subst (λ m. TellsType (xs ++ (ys ++ node_of_two f (Some a) m)) (g (Some a) m) r) (sym other.1)
-    (rest-type xs (ys ++ f a b) (g (Some a) (Some b)) r its.0 (rest-type ys (f a b) (g (Some a) (Some b)) r other.0 tells)))
-
-pub three-told : (f : Ty → Ty → Ty → List CheckFault) (g : Option Ty → Option Ty → Option Ty → Option Ty) (xs ys zs : List CheckFault) (o k l : Option Ty) (a b c : Ty) (r : Result Ty CheckFault)
-    → HasType xs o a → HasType ys k b → HasType zs l c → TellsType (f a b c) (g (Some a) (Some b) (Some c)) r → TellsType (xs ++ (ys ++ (zs ++ node_of_three f o k l))) (g o k l) r
-three-told f g xs ys zs o k l a b c r its other third tells =
-    subst (λ m. TellsType (xs ++ (ys ++ (zs ++ node_of_three f m k l))) (g m k l) r) (sym its.1)
-    (subst (λ m. TellsType (xs ++ (ys ++ (zs ++ node_of_three f (Some a) m l))) (g (Some a) m l) r) (sym other.1)
-    (subst (λ m. TellsType (xs ++ (ys ++ (zs ++ node_of_three f (Some a) (Some b) m))) (g (Some a) (Some b) m) r) (sym third.1)
-    (rest-type xs (ys ++ (zs ++ f a b c)) (g (Some a) (Some b) (Some c)) r its.0
-    (rest-type ys (zs ++ f a b c) (g (Some a) (Some b) (Some c)) r other.0 (rest-type zs (f a b c) (g (Some a) (Some b) (Some c)) r third.0 tells)))))
 
 -- A step of a row.
 pub each-step : {A : Type 0} (faults : List A → A → List CheckFault) (xs : List A) (i : ℕ) (d : A) → i < length xs

@@ -1,8 +1,8 @@
 -- A definition that is looked for in order; rows of items in memory and of their trees.
-use Rattle.std.specs.Prelude.{◌≡◌, ℕ, ◌+◌, ◌<◌, ◌≤◌, suc, Bool, true, false, ◌||◌, List, [], ◌∷◌, ◌++◌, length, map, Some, None, refl, if◌then◌else◌}
+use Rattle.std.specs.Prelude.{◌≡◌, ℕ, ◌+◌, ◌<◌, ◌≤◌, suc, Bool, ◌||◌, List, [], ◌∷◌, ◌++◌, length, map, Some, refl, if◌then◌else◌}
 use Rattle.std.specs.List.{flat_map, list_any}
 use Rattle.std.specs.Str.{bytes_eq}
-use Rattle.std.proofs.Common.{sym, ap, ◌∙◌, arith, drop, get_or, add-one, drop-cons}
+use Rattle.std.proofs.Common.{sym, ap, ◌∙◌, drop, get_or, add-one, drop-cons}
 use Rattle.frp_tree.specs.declared.syntax.Decl.{Decl}
 use Rattle.frp_tree.specs.Tree.{decl_of}
 use Rattle.efrp_meaning.specs.Decls.{decl_named}
@@ -18,19 +18,6 @@ at ds x i d less is past =
     past ∙ ap (λ es. decl_named (map decl_of es) x) (drop-cons ds i d less)
     ∙ ap (λ e. decl_named (map decl_of (e ∷ drop (suc i) ds)) x) (sym is)
     ∙ ap (λ k. if bytes_eq x d.name then Some (decl_of d) else decl_named (map decl_of (drop k ds)) x) (sym (add-one i))
-
-pub found-at : (ds : List Decl) (x : List ℕ) (i : ℕ) (d : Decl) → i < length ds → d ≡ get_or ds i d → Past ds x i → bytes_eq x d.name ≡ true → Some (decl_of d) ≡ decl_named (map decl_of ds) x
-found-at ds x i d less is past same = sym (at ds x i d less is past ∙ ap (λ b. if b then Some (decl_of d) else decl_named (map decl_of (drop (i + 1) ds)) x) same)
-
-pub past-more : (ds : List Decl) (x : List ℕ) (i : ℕ) (d : Decl) → i < length ds → d ≡ get_or ds i d → Past ds x i → bytes_eq x d.name ≡ false → Past ds x (i + 1)
-past-more ds x i d less is past other = at ds x i d less is past ∙ ap (λ b. if b then Some (decl_of d) else decl_named (map decl_of (drop (i + 1) ds)) x) other
-
-drop-past : {A : Type 0} (xs : List A) → drop (length xs) xs ≡ []
-drop-past [] = refl
-drop-past (x ∷ xs) = drop-past xs
-
-pub none-past : (ds : List Decl) (x : List ℕ) (i : ℕ) → i ≤ length ds → length ds ≤ i → Past ds x i → None ≡ decl_named (map decl_of ds) x
-none-past ds x i most least past = let e : i ≡ length ds = omega (arith, most, least) in sym (past ∙ ap (λ es. decl_named (map decl_of es) x) (ap (λ k. drop k ds) e ∙ drop-past ds))
 
 -- Rows of trees.
 map-more : {A B : Type 0} (g : A → B) (xs : List A) (x : A) → map g (xs ++ x ∷ []) ≡ map g xs ++ g x ∷ []

@@ -1,11 +1,10 @@
 -- Names that are put into a set, one after another.
-use Rattle.std.specs.Prelude.{◌≡◌, ℕ, ◌+◌, ◌<◌, Bool, true, false, List, [], ◌∷◌, ◌++◌, length, map, take, String, refl, if◌then◌else◌}
+use Rattle.std.specs.Prelude.{◌≡◌, ℕ, ◌+◌, ◌<◌, Bool, true, false, List, [], ◌∷◌, ◌++◌, map, take, String, refl, if◌then◌else◌}
 use Rattle.std.specs.List.{flat_map, list_any}
 use Rattle.std.specs.Str.{bytes_eq}
 use Rattle.std.specs.String.{string_bytes, string_eq}
-use Rattle.std.proofs.Common.{sym, ap, ◌∙◌, get_or, append_assoc}
-use Rattle.std.proofs.lemmas.List.{append-nil, map-append, take_more}
-use Rattle.std.proofs.lemmas.List.Sums.{fold-append}
+use Rattle.std.proofs.Common.{sym, ap, ◌∙◌, append_assoc}
+use Rattle.std.proofs.lemmas.List.{append-nil, map-append}
 use Rattle.std.proofs.lemmas.Simd.{map-map}
 use Rattle.indexmap.specs.IndexSet.{insert_key, insert_all}
 use Rattle.frp_tree.specs.declared.syntax.Decl.{Decl}
@@ -33,13 +32,6 @@ put-text keys k =
 -- The first i of some items have been put in. One more.
 abbrev pub Put : {A : Type 0} → (A → List ℕ) → List A → ℕ → List (List ℕ) → Type 0
 Put key xs i texts = texts ≡ insert_all bytes_eq [] (map key (take i xs))
-
-pub put-more : {A : Type 0} (key : A → List ℕ) (xs : List A) (i : ℕ) (x : A) (old new : List (List ℕ)) → i < length xs → x ≡ get_or xs i x
-    → Put key xs i old → new ≡ insert_key bytes_eq old (key x) → Put key xs (i + 1) new
-put-more key xs i x old new less is before put =
-    put ∙ ap (λ ts. insert_key bytes_eq ts (key x)) before
-    ∙ sym (ap (insert_all bytes_eq []) (ap (map key) (take_more xs i x less ∙ ap (λ y. take i xs ++ y ∷ []) (sym is)) ∙ map-append key (take i xs) (x ∷ []))
-    ∙ fold-append (insert_key bytes_eq) [] (map key (take i xs)) (key x ∷ []))
 
 -- Names that each differ from those before are put in as they are.
 module _ {A : Type 0} (key : A → List ℕ) (faults : List A → A → List CheckFault)

@@ -8,7 +8,7 @@ use Rattle.std.proofs.lemmas.List.Folds.{list_any-append}
 use Rattle.std.proofs.lemmas.Slice.Eq.{bytes_eq-Decides}
 use Rattle.efrp_types.specs.declared.faults.CheckFault.{CheckFault}
 use Rattle.efrp_types.specs.NameFaults.{each_after}
-use Rattle.efrp_types.proofs.NodeLaws.{both-none, none-of-both}
+use Rattle.efrp_types.proofs.NodeLaws.{both-none}
 
 pub both : {A : Type 0} (P Q R : A → Type 0) → ((x : A) → P x → Q x → R x) → (xs : List A) → AllByRecursion P xs → AllByRecursion Q xs → AllByRecursion R xs
 both P Q R each [] p q = tt
@@ -18,10 +18,6 @@ both P Q R each (x ∷ xs) p q = (each x p.0 q.0, both P Q R each xs p.1 q.1)
 pub none-each : {A : Type 0} (faults : A → List CheckFault) (xs : List A) → flat_map faults xs ≡ [] → AllByRecursion (λ x. faults x ≡ []) xs
 none-each faults [] e = tt
 none-each faults (x ∷ xs) e = let parts = both-none (faults x) (flat_map faults xs) e in (parts.0, none-each faults xs parts.1)
-
-pub each-none : {A : Type 0} (faults : A → List CheckFault) (xs : List A) → AllByRecursion (λ x. faults x ≡ []) xs → flat_map faults xs ≡ []
-each-none faults [] each = refl
-each-none faults (x ∷ xs) each = none-of-both (faults x) (flat_map faults xs) each.0 (each-none faults xs each.1)
 
 -- Where none has one after those before it, each has what follows from that, whatever stood before.
 pub none-after : {A : Type 0} (faults : List A → A → List CheckFault) (P : A → Type 0) → ((before : List A) (x : A) → faults before x ≡ [] → P x)

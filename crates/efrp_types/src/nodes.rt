@@ -95,7 +95,7 @@ fn operands(alloc: Global, owner: &Text, op: BinOp, a: Ty, b: Ty) -> Result<(), 
 }
 
 /// The type of the operator's value, where its operands are as it wants them and the left one has this type.
-pub fn value_type(op: BinOp, a: Ty) -> Ty
+pub(crate) fn value_type(op: BinOp, a: Ty) -> Ty
     ensures { result ≡ if gives_bool op then ty.Bool else a }
 {
     match op {

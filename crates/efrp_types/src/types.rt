@@ -70,7 +70,7 @@ fn type_in(
 }
 
 /// The type of an expression that has one, which follows from its first operand or from its name.
-pub fn type_at(p: &Program, names: &Names, e: &Expr) -> Ty
+pub(crate) fn type_at(p: &Program, names: &Names, e: &Expr) -> Ty
     requires named { AreNamesOf names.now (program_tree_of p.now) }
     requires fit { IsFit (program_tree_of p.now) (tree_of e.now) }
     ensures { (t : AnyTy) → type_of (program_tree_of p.now) (tree_of e.now) ≡ Some t → result ≡ t }

@@ -3,7 +3,7 @@ use Rattle.std.proofs.Common.{◌≡◌, ℕ, zero, suc, ◌+◌, Bool, true, fa
 use Rattle.std.specs.List.{find, list_all, list_any}
 use Rattle.std.specs.Str.{bytes_eq}
 use Rattle.std.proofs.Math.Bool.{and-true, and-false}
-use Rattle.std.proofs.lemmas.List.{append-nil, map-append, take_all, take_more}
+use Rattle.std.proofs.lemmas.List.{append-nil, map-append, take_more}
 use Rattle.std.proofs.lemmas.List.Elements.{filter-append}
 use Rattle.std.proofs.lemmas.List.Folds.{list_all-append}
 use Rattle.text_parts.specs.Numbers.{is_byte, value_after}
@@ -94,12 +94,6 @@ one-sample fields input byte rest first h =
     let all : samples_for input fields ≡ first.field ∷ [] = first.split ∙ ap (λ more. first.field ∷ more) h in
     (ap (λ found. nat_lt (length found) 2) all, first.value ∙ sym (find-first fields [] first.field input all), first.small)
 
-pub two-samples : (fields : List (List ℕ)) (input : DeclTree) (byte : ℕ) (rest : List (List ℕ)) (second : ℕ) (last : List (List ℕ)) → IsFirst fields input byte rest → IsFirst rest input second last → is_once fields input ≡ false
-two-samples fields input byte rest second last first next =
-    let all : samples_for input fields ≡ first.field ∷ (next.field ∷ samples_for input last) = first.split ∙ ap (λ more. first.field ∷ more) next.split in
-    let long : nat_lt (length (first.field ∷ (next.field ∷ samples_for input last))) 2 ≡ false = grind arith in
-    ap (λ found. nat_lt (length found) 2) all ∙ long
-
 -- The inputs among definitions, with one definition more.
 inputs-push : (ds : List Decl) (d : Decl) → inputs_among (map decl_of (ds ++ d ∷ [])) ≡ inputs_among (map decl_of ds) ++ cond (is_input (behaviour_of d.behaviour)) (decl_of d ∷ []) []
 inputs-push ds d = ap inputs_among (map-append decl_of ds (d ∷ [])) ∙ filter-append (λ x. is_input x.behaviour) (map decl_of ds) (decl_of d ∷ [])
@@ -117,9 +111,6 @@ values-push (x ∷ ds) d [] n are small = absurd are
 values-push (x ∷ ds) d (m ∷ ns) n are small = (are.0, values-push ds d ns n are.1 small)
 
 -- The samples of the definitions so far, with one more.
-pub given-none : (fields : List (List ℕ)) → AreGiven fields [] []
-given-none fields = record { once = refl; values = refl; bytes = tt }
-
 pub given-skip : (fields : List (List ℕ)) (ds : List Decl) (i : ℕ) (d : Decl) (samples : List ℕ) → i < length ds → d ≡ get_or ds i d → is_input (behaviour_of d.behaviour) ≡ false
     → AreGiven fields (inputs_among (map decl_of (take i ds))) samples → AreGiven fields (inputs_among (map decl_of (take (i + 1) ds))) samples
 given-skip fields ds i d samples inside at h are =
@@ -149,6 +140,3 @@ given-twice fields (x ∷ ds) (suc i) d inside at h twice = go (is_input (behavi
     go : (b : Bool) → list_all (is_once fields) (inputs_among (map decl_of ds)) ≡ false → list_all (is_once fields) (cond b (decl_of x ∷ inputs_among (map decl_of ds)) (inputs_among (map decl_of ds))) ≡ false
     go true e = ap (λ b. is_once fields (decl_of x) && b) e ∙ and-false (is_once fields (decl_of x))
     go false e = e
-
-pub given-all : (fields : List (List ℕ)) (ds : List Decl) (i : ℕ) (samples : List ℕ) → length ds ≤ i → AreGiven fields (inputs_among (map decl_of (take i ds))) samples → AreGiven fields (inputs_among (map decl_of ds)) samples
-given-all fields ds i samples past are = subst (λ x. AreGiven fields (inputs_among (map decl_of x)) samples) (take_all i ds past) are

@@ -72,9 +72,6 @@ are_for_inputs p rest = list_all (λ field. list_any (gives field) (inputs_of p)
 pub other-field : (p : ProgramTree) (text name : List ℕ) (rest : List (List ℕ)) → fields_of text ≡ name ∷ rest → are_for_inputs p rest ≡ false → occurrence_in p text ≡ None
 other-field p text name rest e none = no-samples p text name rest e (ap (λ b. b && list_all (is_once rest) (inputs_of p)) none)
 
-pub input-twice : (p : ProgramTree) (text name : List ℕ) (rest : List (List ℕ)) → fields_of text ≡ name ∷ rest → list_all (is_once rest) (inputs_of p) ≡ false → occurrence_in p text ≡ None
-input-twice p text name rest e none = no-samples p text name rest e (ap (λ b. are_for_inputs p rest && b) none ∙ and-false (are_for_inputs p rest))
-
 pub states-event : (p : ProgramTree) (text name : List ℕ) (rest : List (List ℕ)) (event : ℕ) (samples : List ℕ) → fields_of text ≡ name ∷ rest → position (has_name name) p.events ≡ Some event
     → has_no_outer_space text ≡ true → are_for_inputs p rest ≡ true → AreGiven rest (inputs_of p) samples → States p text (Some (record { event = event; samples = samples }))
 states-event p text name rest event samples e at space for given =

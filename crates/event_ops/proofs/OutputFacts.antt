@@ -1,7 +1,7 @@
 -- Outputs one behind the other: what is drafted and put for some, and for one more.
 use Rattle.std.specs.List.{AllByRecursion}
 use Rattle.std.proofs.Common.{◌≡◌, ℕ, ◌+◌, ◌<◌, ◌≤◌, List, [], ◌∷◌, ◌++◌, map, slice_get, sum_by, take, Option, Some, option_and_then, refl, sym, ap, subst, ◌∙◌, arith}
-use Rattle.std.proofs.lemmas.List.{append-nil, map-append}
+use Rattle.std.proofs.lemmas.List.{map-append}
 use Rattle.std.proofs.lemmas.List.Sums.{sum_by-append, sum_by-take-le, sum_by_push}
 use Rattle.frp_tree.specs.declared.syntax.Ty.TheVariants.{U8}
 use Rattle.frp_tree.specs.Tree.{OutputTree, ProgramTree}
@@ -47,16 +47,6 @@ still-put : (states a : ℕ) (qs : List Put) (f g : ℕ → ℕ) → AllByRecurs
 still-put states a [] f g all same = refl
 still-put states a (q ∷ qs) f g all same =
     ap (λ n. Some n ∷ map (λ (x : Put). Some (f x.from)) qs) (same q.from all.0.given) ∙ ap (λ rest. Some (g q.from) ∷ rest) (still-put states a qs f g all.1 same)
-
--- None yet.
-pub shows-none : (p : ProgramTree) (draft : Draft) → Shows p draft draft [] []
-shows-none p draft = record {
-  ops = [];
-  grows = record { goes_on = record { ops = sym (append-nil draft.ops); places = refl; copies = refl; states = refl }; order = refl; runs = tt; count = omega arith; weight = omega arith };
-  puts = tt;
-  ports = refl;
-  values = λ names start finish bytes hold d. refl;
-}
 
 module _ (p : ProgramTree) (first middle last : Draft) (outputs : List OutputTree) (o : OutputTree) (puts : List Put) (shows : Shows p first middle outputs puts) where
   more : first.cells.next ≤ middle.cells.next

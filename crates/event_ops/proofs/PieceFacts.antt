@@ -9,7 +9,6 @@ use Rattle.frp_tree.specs.Tree.{Tree, ProgramTree}
 use Rattle.efrp_meaning.specs.Bounds.{result_bytes}
 use Rattle.event_needs.proofs.ListLaws.{all-append}
 use Rattle.byte_ops.specs.declared.operations.Op.{Op}
-use Rattle.byte_ops.specs.declared.operations.Op.TheVariants as op
 use Rattle.byte_ops.specs.declared.operations.Pair.{Pair}
 use Rattle.byte_ops.specs.Cells.{cells_of, held}
 use Rattle.byte_ops.specs.Kinds.{IsOp}
@@ -225,26 +224,3 @@ module _ (p : ProgramTree) (before middle after : Draft) (e : Tree) (t : Ty) (pa
         low = omega (arith, low_is, m.low_old, adds.goes_on.states);
         high = omega (arith, high_is, m.high_old, adds.goes_on.states);
       }
-
--- What is done with a cell, by the test of it.
-pub moved-new : (states next cell : ℕ) → cell < states → moved states next cell ≡ record { ops = op.Copy next cell ∷ []; at = next; next = next + 1 }
-moved-new states next cell less = ap (λ b. moved_if b next cell) (lt-ltb cell states less)
-
-pub moved-old : (states next cell : ℕ) → states ≤ cell → moved states next cell ≡ record { ops = []; at = cell; next = next }
-moved-old states next cell more = by_test (nat_lt cell states) refl
-  where
-    by_test : (b : Bool) → nat_lt cell states ≡ b → ◌≡◌ {A = Moved} (moved_if b next cell) (record { ops = []; at = cell; next = next })
-    by_test true e = let less = ltb-true cell states e in absurd (omega (arith, less, more))
-    by_test false e = refl
-
-moved-on : (states next cell : ℕ) → next ≤ (moved states next cell).next
-moved-on states next cell = by_test (nat_lt cell states)
-  where
-    by_test : (b : Bool) → next ≤ (moved_if b next cell).next
-    by_test true = omega arith
-    by_test false = omega arith
-
--- Where there is room for two, there is for the first.
-pub first-room : (wide : Bool) (states next : ℕ) (pair : Pair) → (moved_pair wide states next pair).next ≤ 65536 → (moved states next pair.low).next ≤ 65536
-first-room false states next pair room = room
-first-room true states next pair room = let on = moved-on states (moved states next pair.low).next pair.high in omega (arith, room, on)

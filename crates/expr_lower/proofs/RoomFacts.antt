@@ -23,14 +23,6 @@ module _ (names : List ℕ → Operand) where
       let whole : (of_binary f n.next m.to n.to).next ≤ 65536 = subst (HasRoom next) is room in
       omega (arith, grows names m.next b, binary-grows f n.next m.to n.to)
 
-  pub binary-second : (next : ℕ) (f : BinOp) (e a b : Tree) → e ≡ Binary f a b → HasRoom next e → (d g : Draft) (x : Operand) → d.next ≡ next → Adds d g (made names next a) x → HasRoom g.next b
-  binary-second next f e a b is room d g x at first =
-      let m = made names next a in
-      let n = made names m.next b in
-      let whole : (of_binary f n.next m.to n.to).next ≤ 65536 = subst (HasRoom next) is room in
-      let enough : HasRoom m.next b = omega (arith, binary-grows f n.next m.to n.to) in
-      subst (λ k. HasRoom k b) (sym first.1) enough
-
   pub binary-last :
       (d g h : Draft) (f : BinOp) (e a b : Tree) (x y : Operand)
       → e ≡ Binary f a b → HasRoom d.next e → Adds d g (made names d.next a) x → Adds g h (made names g.next b) y → (of_binary f h.next x y).next ≤ 65536

@@ -5,29 +5,12 @@ use Rattle.std.proofs.lemmas.Option.{none-some}
 use Rattle.frp_tree.specs.declared.syntax.Ty.{Ty}
 use Rattle.frp_tree.specs.declared.syntax.Ty.TheVariants.{U8, U16}
 use Rattle.frp_tree.specs.declared.syntax.Ty.TheVariants as ty
-use Rattle.frp_tree.specs.declared.syntax.UnOp.{UnOp}
-use Rattle.frp_tree.specs.declared.syntax.UnOp.TheVariants as unary
 use Rattle.frp_tree.specs.declared.syntax.BinOp.{BinOp}
-use Rattle.efrp_meaning.specs.Types.{binary_type, common_type, convert_type, if_type, shift_type, unary_type}
+use Rattle.efrp_meaning.specs.Types.{binary_type, common_type, convert_type, if_type, shift_type}
 use Rattle.efrp_meaning.proofs.TypedValueLaws.{no_type}
 
 pub some-same : (s t : Ty) → Some s ≡ Some t → s ≡ t
 some-same s t e = cc
-
--- `~` and `!`
-abbrev pub IsUnary : UnOp → Option Ty → Ty → Type 0
-IsUnary unary.Com s t = s ≡ Some t
-IsUnary unary.Not s t = (s ≡ Some ty.Bool) × (t ≡ ty.Bool)
-
-pub unary-operand : (f : UnOp) (s : Option Ty) (t : Ty) → unary_type f s ≡ Some t → IsUnary f s t
-unary-operand unary.Com (Some U8) t e = e
-unary-operand unary.Com (Some U16) t e = e
-unary-operand unary.Com (Some ty.Bool) t e = absurd (none-some t e)
-unary-operand unary.Com None t e = absurd (none-some t e)
-unary-operand unary.Not (Some ty.Bool) t e = (refl, cc)
-unary-operand unary.Not (Some U8) t e = absurd (none-some t e)
-unary-operand unary.Not (Some U16) t e = absurd (none-some t e)
-unary-operand unary.Not None t e = absurd (none-some t e)
 
 -- Two operands of one type.
 pub record AreOperands (f : BinOp) (r s : Option Ty) (t : Ty) : Type 0 where

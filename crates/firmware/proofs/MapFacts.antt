@@ -24,10 +24,6 @@ use Rattle.firmware.specs.Making.{AreFrames, AreFramesOf, AreMade}
 use Rattle.firmware.proofs.MadeFacts.{cells_at, work_at}
 use Rattle.firmware.proofs.WorkFacts.{has_room}
 
--- The frames of no event; and one frame more.
-pub no_frames : (f : Makings) (frames : List Frame) → frames ≡ [] → AreFramesOf f 0 frames
-no_frames f frames none = record { number = ap length none; each = λ event less. absurd (omega (arith, less)) }
-
 pub one_frame_more : (f : Makings) (count : ℕ) (frames : List Frame) (one : Frame) → AreFramesOf f count frames → one ≡ frame_in (plan_in f count)
     → AreFramesOf f (count + 1) (frames ++ one ∷ [])
 one_frame_more f count frames one are its = record {

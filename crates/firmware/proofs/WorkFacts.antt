@@ -42,16 +42,7 @@ can_be_coded p need event ops its inside works =
     let more = has_room p need event its inside in
     works_can_be_coded p (event_name p event) (bytes_of need) ops works (omega (arith, room, more))
 
--- The works of no event; and one work more.
-pub no_works : (p : ProgramTree) (need : Needs) (works : List Work) → works ≡ [] → AreWorksOf p need 0 works
-no_works p need works none = record {
-  number = ap length none;
-  each = λ event work found.
-      let inside = slice_get_within works event work found in
-      let long = ap length none in
-      absurd (omega (arith, inside, long));
-}
-
+-- One work more.
 pub one_work_more : (p : ProgramTree) (need : Needs) (count : ℕ) (works : List Work) (one : Work) → AreWorksOf p need count works → IsWorkFor p need count one
     → AreWorksOf p need (count + 1) (works ++ one ∷ [])
 one_work_more p need count works one are its = record {

@@ -109,9 +109,6 @@ module _ (paged : Bool) (lines : List Line) (taking : List Item) where
   pub before_ready_ends : ends_skipping false before_ready ≡ false
   before_ready_ends = ends-append false (map item_of rest) (item_of turns_on ∷ [])
 
-  pub goto_word : 0 < words_in paged (goto ∷ [])
-  goto_word = let one = goto_words paged (mark Ready) (ready_place taking rest) in omega (arith, one)
-
   pub boot_words : words_in paged (boot_items paged lines taking) ≡ length rest + 2
   boot_words =
       let parts = ap (words_in paged) boot_parts in

@@ -1,7 +1,7 @@
 -- Ranges with one more address above them.
 use Rattle.std.proofs.Common.{◌≡◌, ℕ, ◌+◌, ◌<◌, ◌≤◌, ◌||◌, ◌&&◌, nat_le, Bool, true, false, List, [], ◌∷◌, ◌++◌, inl, inr, ap, sym, ◌∙◌, refl, arith, eq-eqb, ne_eqb}
 use Rattle.std.specs.Prelude.{◌==◌, ◌≢◌, nat_lt}
-use Rattle.std.proofs.lemmas.Bool.{and_from, and_left, and_right, cases_eq, le-ltb, lt-ltb, or_right}
+use Rattle.std.proofs.lemmas.Bool.{and_from, and_right, cases_eq, lt-ltb, or_right}
 use Rattle.std.proofs.lemmas.Bool.Decides.{nat_tests}
 use Rattle.std.proofs.Math.Bool.{or_assoc, or-false}
 use Rattle.map_file.specs.declared.maps.Range.{Range}
@@ -105,19 +105,9 @@ held-apart test rs r b is_data apart held passes =
       exact = λ a. in-apart (rs ++ r ∷ []) b a ∙ ap (λ x. x || a == b) (held.exact a) ∙ exact-with test a b passes;
     }
 
-pub held-first : (test : ℕ → Bool) (b : ℕ) → b < 512 → HoldBelow b test [] → test b ≡ true → HoldBelow (b + 1) test (single b ∷ [])
-held-first test b is_data held passes = record {
-  rise = (omega arith, omega arith, is_data, tt);
-  ends = (omega arith, tt);
-  exact = λ a. in-apart [] b a ∙ ap (λ x. x || a == b) (held.exact a) ∙ exact-with test a b passes;
-}
-
 pub held-without : (test : ℕ → Bool) (rs : List Range) (b : ℕ) → HoldBelow b test rs → test b ≡ false → HoldBelow (b + 1) test rs
 held-without test rs b held fails = record {
   rise = held.rise;
   ends = ends-further b rs held.ends;
   exact = λ a. held.exact a ∙ exact-without test a b fails;
 }
-
-pub held-none : (test : ℕ → Bool) → HoldBelow 0 test []
-held-none test = record { rise = tt; ends = tt; exact = λ a. sym (and_left (nat_lt a 0) (test a) (le-ltb a 0 (omega arith))) }

@@ -1,12 +1,11 @@
 -- An event that is heard with its flag set: the chip takes an interrupt at that boundary or the next, whatever the firmware.
-use Rattle.std.specs.Prelude.{ℕ, zero, suc, ◌+◌, true, false, ◌||◌, ◌&&◌, List, [], ◌∷◌, ◌⊎◌}
+use Rattle.std.specs.Prelude.{ℕ, zero, suc, ◌+◌, true, ◌||◌, ◌&&◌, List, [], ◌∷◌, ◌⊎◌}
 use Rattle.std.specs.List.{AllByRecursion}
 use Rattle.std.proofs.Common.{◌≡◌, refl, sym, subst, add-one}
 use Rattle.std.proofs.lemmas.Bool.{and_parts}
 use Rattle.std.proofs.Math.Bool.{or-true}
 use Rattle.pic_isa.specs.declared.sources.Source.{Source}
 use Rattle.pic_isa.specs.declared.sources.Source.TheVariants.{T0, Int}
-use Rattle.pic_regs.specs.Bytes.{zeros}
 use Rattle.pic_regs.specs.Registers.{Registers, flag, enable, requested}
 use Rattle.pic_machine.specs.Chip.{Chip}
 use Rattle.pic_machine.specs.Boundary.{Outer, Step}
@@ -16,17 +15,6 @@ use Rattle.map_file.specs.declared.maps.MapEvent.{MapEvent}
 use Rattle.map_file.specs.declared.maps.Map.{Map}
 use Rattle.firmware_promises.specs.Counts.{takes, chip_after}
 use Rattle.firmware_promises.specs.Urgent.{is_in_intcon, is_heard, TakesInTime}
-
--- A flag lies in INTCON, or in PIR1 and PIR2: the other registers don't change it.
-pub flag_in_intcon : (source : Source) (r : Registers) → is_in_intcon source ≡ true → flag source (record r { pir1 = zeros; pir2 = zeros }) ≡ flag source r
-flag_in_intcon T0 r h = refl
-flag_in_intcon Int r h = refl
-flag_in_intcon _ r h = absurd cc
-
-pub flag_not_in_intcon : (source : Source) (r : Registers) → is_in_intcon source ≡ false → flag source (record r { intcon = zeros }) ≡ flag source r
-flag_not_in_intcon T0 r h = absurd cc
-flag_not_in_intcon Int r h = absurd cc
-flag_not_in_intcon _ r h = refl
 
 -- Where an event is heard and its flag is set, the chip's interrupt is requested.
 requested_by : (source : Source) (r : Registers) → r.intcon.b7 ≡ true → enable source r ≡ true → (is_in_intcon source || r.intcon.b6) ≡ true → flag source r ≡ true → requested r ≡ true

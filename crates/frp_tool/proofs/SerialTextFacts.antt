@@ -1,18 +1,17 @@
 -- The text of a model as it grows, reaction by reaction.
-use Rattle.std.proofs.Common.{◌≡◌, ℕ, suc, ◌<◌, List, [], ◌∷◌, ◌++◌, length, get_or, drop, map, Option, Some, None, codes, refl, ap, sym, ◌∙◌, subst}
+use Rattle.std.proofs.Common.{◌≡◌, ℕ, suc, ◌<◌, List, [], ◌∷◌, ◌++◌, length, get_or, drop, map, Option, Some, None, refl, ap, sym, ◌∙◌, subst}
 use Rattle.std.specs.Prelude.{option_map, option_and_then}
 use Rattle.std.specs.List.{AllByRecursion}
-use Rattle.std.proofs.Math.Seq.{drop-cons, drop-length}
-use Rattle.std.proofs.lemmas.List.{append_assoc, append-nil, length-map}
+use Rattle.std.proofs.Math.Seq.{drop-cons}
+use Rattle.std.proofs.lemmas.List.{append_assoc, length-map}
 use Rattle.frp_tree.specs.declared.syntax.Ty.{Ty}
 use Rattle.frp_tree.specs.declared.syntax.Value.{Value}
 use Rattle.frp_tree.specs.Tree.{DeclTree, ProgramTree}
-use Rattle.map_file.specs.MapText.{line}
 use Rattle.efrp_meaning.specs.Decls.{reactive_decls}
-use Rattle.efrp_meaning.specs.Meaning.{State, Samples, Reaction, Occurrence, map_two, all_defined, initial_state, new_state, port_values, expression_on, depth, react}
+use Rattle.efrp_meaning.specs.Meaning.{State, Samples, Reaction, Occurrence, map_two, all_defined, new_state, port_values, expression_on, depth, react}
 use Rattle.efrp_types.specs.Numbers.{event_name}
 use Rattle.event_file.specs.declared.occurrences.Occurrence.{Occurrence as Found}
-use Rattle.event_file.specs.Model.{values_in, reaction_lines, reactions_from, model_text}
+use Rattle.event_file.specs.Model.{reaction_lines, reactions_from, model_text}
 use Rattle.event_file.specs.Reads.{IsFound, occurrence_of}
 use Rattle.reaction_model.specs.States.{AreOf, HasTypes, numbers_of}
 
@@ -76,16 +75,6 @@ pub record ToldSoFar (p : ProgramTree) (events : List Found) (i : ℕ) (text : L
   pub found : AllByRecursion (IsFound p) (drop i events)
 
 module _ (p : ProgramTree) (events : List Found) where
-  pub told_first : (text : List ℕ) (values : List Value) → initial_state p ≡ Some (numbers_of values) → HasTypes p values → AllByRecursion (IsFound p) events → text ≡ line (codes "init" ∷ values_in p (numbers_of values))
-      → ToldSoFar p events 0 text values
-  told_first text values initial typed found is = record {
-    told =
-        ap (λ (front : List ℕ). with_rest p front (numbers_of values) (map (occurrence_of p) events)) is
-        ∙ sym (ap (λ (o : Option State). option_and_then (λ s. option_map (λ rest. line (codes "init" ∷ values_in p s) ++ rest) (reactions_from p s (map (occurrence_of p) events))) o) initial);
-    typed = typed;
-    found = found;
-  }
-
   -- The event that is next, and those behind it.
   module _ (i : ℕ) (text : List ℕ) (values : List Value) (so_far : ToldSoFar p events i text values) (o : Found) (inside : i < length events) (at : o ≡ get_or events i o) where
     next : drop i events ≡ o ∷ drop (suc i) events
@@ -93,9 +82,6 @@ module _ (p : ProgramTree) (events : List Found) where
 
     found_all : IsFound p o × AllByRecursion (IsFound p) (drop (suc i) events)
     found_all = subst (AllByRecursion (IsFound p)) next so_far.found
-
-    pub found_next : IsFound p o
-    found_next = found_all.0
 
     pub told_more : (text' : List ℕ) (values' : List Value) (ports : List ℕ) → react p (numbers_of values) o.samples (event_name p o.event) ≡ Some (record { state = numbers_of values'; ports = ports }) → HasTypes p values'
         → text' ≡ text ++ reaction_lines p (event_name p o.event) (record { state = numbers_of values'; ports = ports }) → ToldSoFar p events (suc i) text' values'
@@ -110,8 +96,3 @@ module _ (p : ProgramTree) (events : List Found) where
           typed = typed;
           found = found_all.1;
         }
-
-  pub told_all : (i : ℕ) (text : List ℕ) (values : List Value) → i ≡ length events → ToldSoFar p events i text values → model_text p (map (occurrence_of p) events) ≡ Some text
-  told_all i text values end so_far =
-      let none : drop i events ≡ [] = ap (λ n. drop n events) end ∙ drop-length events in
-      sym so_far.told ∙ ap (λ (xs : List Found). with_rest p text (numbers_of values) (map (occurrence_of p) xs)) none ∙ ap (λ bytes. Some bytes) (append-nil text)

@@ -41,9 +41,6 @@ blank_no_letter b x y = grind (arith, nat_tests)
 pub blank_no_digit : (b : ℕ) → is_blank b ≡ true → is_digit b ≡ true → ⊥
 blank_no_digit b x y = grind (arith, nat_tests)
 
-pub hex_word : (b : ℕ) → is_hex_digit b ≡ true → is_word_byte b ≡ true
-hex_word b x = grind (arith, nat_tests)
-
 -- A byte of a number's spelling.
 abbrev pub is_number_byte : ℕ → Bool
 is_number_byte b = is_hex_digit b || b == 120
@@ -185,9 +182,6 @@ mark_no_letter b x y = grind (arith, nat_tests)
 mark_no_digit : (b : ℕ) → is_mark_start b ≡ true → is_digit b ≡ true → ⊥
 mark_no_digit b x y = grind (arith, nat_tests)
 
-pub mark_no_word : (b : ℕ) → is_mark_start b ≡ true → is_word_byte b ≡ true → ⊥
-mark_no_word b x y = grind (arith, nat_tests)
-
 mark_no_blank : (b : ℕ) → is_mark_start b ≡ true → is_blank b ≡ true → ⊥
 mark_no_blank b x y = grind (arith, nat_tests)
 
@@ -235,7 +229,3 @@ same_token (token.Num n) (token.Mark k) w h l = absurd (other_kind is_digit is_m
 same_token (token.Mark j) (token.Num m) w h k = absurd (other_kind is_digit is_mark_start w digit_no_mark (number_begins w m k) (mark_begins w j h))
 same_token (token.Wide n) (token.Mark k) w h l = absurd (other_kind is_digit is_mark_start w digit_no_mark (lexeme_begins (token.Wide n) w h) (mark_begins w k l))
 same_token (token.Mark j) (token.Wide m) w h k = absurd (other_kind is_digit is_mark_start w digit_no_mark (lexeme_begins (token.Wide m) w k) (mark_begins w j h))
-
--- A text that differs from each mark is none.
-pub no_mark : (w : List ℕ) → list_all (λ m. not (bytes_eq m w)) marks ≡ true → (k : ℕ) → slice_get marks k ≡ Some w → ⊥
-no_mark w h k e = unlike w (all_at (λ m. not (bytes_eq m w)) marks k w h e)

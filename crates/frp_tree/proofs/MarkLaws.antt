@@ -354,9 +354,6 @@ behaviour_read b w (table {l = l} {ls = ls}) =
 behaviour_read b w (reactive {l = l} ts r) =
     (refl, first_literal_read l (word (codes "in") ∷ sign mark.OPENING_BRACE ∷ ((ts ++ sign mark.CLOSING_BRACE ∷ []) ++ sign mark.SEMICOLON ∷ [])) Between (refl, (refl, subst (λ x. Goes Clauses x Between) (sym (append_assoc ts (sign mark.CLOSING_BRACE ∷ []) (sign mark.SEMICOLON ∷ []))) (goes_append ts _ _ _ _ (row_read Clauses clause_read r) (refl, (refl, refl))))))
 
-type_read : (t : Ty) (cells : List Cell) (q : Place) → Goes Heading cells q → Goes Heading (word (type_name t) ∷ cells) q
-type_read t cells q h = (refl, h)
-
 decl_read : (d : DeclTree) (w : List Cell) → SpellsDecl d w → Goes Between w Between
 decl_read d w s = subst (λ x. Goes Between x Between) (sym s.whole) (refl, (refl, (refl, (refl, (refl, behaviour_read d.behaviour s.value s.spelled)))))
 

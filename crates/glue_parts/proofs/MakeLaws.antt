@@ -33,11 +33,6 @@ pub fits_then : (behind : Bool) (xs ys : List Line) (known : BankBits) → Fits 
 fits_then behind [] ys known fits then_fits = subst (λ b. Fits b known ys) (sym fits) then_fits
 fits_then behind (line ∷ xs) ys known fits then_fits = (fits.0, fits.1, fits_then (may_skip line) xs ys (bank_behind line known) fits.2 then_fits)
 
--- Only a skip skips.
-only_skips : (line : Line) (c : Chip) → may_skip line ≡ false → skips line c ≡ false
-only_skips (Skip v p b) c never = absurd (cc)
-only_skips _ c never = refl
-
 -- What they leave and put: none of the second part is skipped, since the first doesn't end in a skip.
 abbrev pub EndsWell : (behind : Bool) → List Line → Type 0
 EndsWell behind [] = behind ≡ false

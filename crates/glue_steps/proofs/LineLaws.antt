@@ -252,9 +252,6 @@ flag_stored Pir1 takes source result c = absurd (cc)
 flag_stored Pir2 takes source result c = absurd (cc)
 flag_stored _ takes source result c = refl
 
-flag_high_bit : (b : ℕ) (v : Bool) (i : Byte) → nat_le 3 b ≡ true → with_bit b v i ≡ record (with_bit b v i) { b2 = i.b2; b1 = i.b1 }
-flag_high_bit b v i high = high_bit_set b v i.b2 i.b1 i high
-
 flag_bit : (p : Place) (b : ℕ) (v : Bool) → takes_bit (reg_of p) b ≡ true → (source : Source) (c : Chip) → flag source (ran (Bit v p b) c).regs ≡ flag source c.regs
 flag_bit place.Intcon b v takes source c =
     ap (λ (i : Byte). flag source (record c.regs { intcon = i })) (high_bit_set b v c.regs.intcon.b2 c.regs.intcon.b1 c.regs.intcon takes)

@@ -4,7 +4,7 @@ use Rattle.std.proofs.lemmas.Bool.{cond-true, cond-false, cases_Bool}
 use Rattle.hex_file.specs.Faults.{bytes_of, record_in, got_sum, want_sum, has_end, has_bad_char, has_bad_length, has_bad_sum, has_bad_type, has_bad_payload, is_out_of_range, other_at, clash_at, line_fault}
 use Rattle.hex_file.specs.ImageOf.{HexRecord, IsRecordLine}
 use Rattle.hex_file.specs.declared.faults.HexFault.{HexFault}
-use Rattle.hex_file.specs.declared.faults.HexFault.TheVariants.{BadChar, BadLength, BadSum, BadType, OutOfRange, Clash, AfterEnd}
+use Rattle.hex_file.specs.declared.faults.HexFault.TheVariants.{BadChar, BadLength, BadSum, BadType, OutOfRange, Clash}
 use Rattle.hex_file.proofs.RecordFacts.{PassesTests, passes_tests}
 
 -- The tests of a line's own text, and what the others say.
@@ -23,10 +23,7 @@ tests_then number line others =
 abbrev clash_fault : ℕ → Option ℕ → Option HexFault
 clash_fault number o = option_map (λ address. Clash number address) o
 
--- After an end record, and before one.
-
-pub behind_end : (records : List HexRecord) (number : ℕ) (line : List ℕ) → has_end records ≡ true → line_fault records number line ≡ Some (AfterEnd number)
-behind_end records number line e = cond-true (has_end records) _ _ e
+-- Before an end record.
 
 pub before_end : (records : List HexRecord) (number : ℕ) (line : List ℕ) → has_end records ≡ false
     → line_fault records number line ≡ tests_then number line (clash_fault number (clash_at records (record_in (bytes_of line))))

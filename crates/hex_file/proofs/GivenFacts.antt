@@ -1,7 +1,7 @@
 -- The bytes that records give, one by one, as a function of the address.
 use Rattle.std.proofs.Common.{◌≡◌, ◌≢◌, ℕ, zero, suc, ◌+◌, ◌-◌, ◌<◌, ◌≤◌, ⊎_elim, true, false, List, [], ◌∷◌, ◌++◌, length, take, drop, Option, None, Some, refl, sym, ◌∙◌, ap, subst, slice_get, slice_set, slice_index, slice_index_or, add-zero, drop-cons, get_or-set_same, get_or-set_other, length-set, arith}
 use Rattle.std.proofs.lemmas.Bool.{cases_lt, cases_eq, eqb-true, eq-eqb, ne_eqb, le-leb, lt-leb, cond-true, cond-false, and_left, not-false}
-use Rattle.std.proofs.lemmas.List.{drop_all, take_all}
+use Rattle.std.proofs.lemmas.List.{take_all}
 use Rattle.std.specs.Option.{option_or}
 use Rattle.hex_file.specs.Faults.{byte_of, byte_given, is_other, other_at, clash_at}
 use Rattle.hex_file.specs.ImageOf.{HexRecord}
@@ -165,11 +165,6 @@ pub given_whole : (records : List HexRecord) (r : HexRecord) (count : ℕ) (tabl
 given_whole records r count table e all part =
     let whole : bytes_from r.address (take count r.payload) ≡ r = ap (bytes_from r.address) (take_all count r.payload all) ∙ data_record r e in
     subst (λ s. IsTable (records ++ s ∷ []) table) whole part.given
-
-pub agrees_whole : (records : List HexRecord) (r : HexRecord) (count : ℕ) (table : List (Option ℕ)) → r.kind ≡ 0 → length r.payload ≤ count
-    → IsPart records r.address r.payload count table → clash_at records r ≡ None
-agrees_whole records r count table e all part =
-    clash_of_data records r e ∙ sym part.others ∙ ap (other_at records (r.address + count)) (drop_all count r.payload all)
 
 pub given_other : (records : List HexRecord) (r : HexRecord) (table : List (Option ℕ)) → r.kind ≢ 0 → IsTable records table → IsTable (records ++ r ∷ []) table
 given_other records r table e is = same_with_none records r table (λ address. byte_of_other r address e) is

@@ -8,8 +8,8 @@ pub mod ReadFacts
 pub mod GivenByteFacts
 pub mod GivenFacts
 pub mod ImageLaws
-pub mod ImageMadeFacts
 pub mod LineFacts
+pub mod OrderFacts
 pub mod PieceFacts
 pub mod RecordFacts
 pub mod RiseFacts

@@ -1,18 +1,15 @@
 -- The lines of a file that are read: those at its beginning have no fault.
-use Rattle.std.proofs.Common.{◌≡◌, ◌≢◌, ℕ, zero, suc, ◌+◌, ◌-◌, ◌<◌, Bool, true, false, ◌||◌, ◌==◌, nat_lt, List, [], ◌∷◌, ◌++◌, length, take, Option, None, Some, refl, sym, ◌∙◌, ap, subst, append_assoc, append-nil, length-append, arith}
+use Rattle.std.proofs.Common.{◌≡◌, ◌≢◌, ℕ, zero, suc, ◌+◌, ◌-◌, ◌<◌, Bool, true, false, ◌||◌, ◌==◌, nat_lt, List, [], ◌∷◌, ◌++◌, length, take, Option, None, refl, sym, ◌∙◌, ap, subst, append_assoc, append-nil, length-append, arith}
 use Rattle.std.proofs.lemmas.Bool.{cond-true, cond-false, eqb-false, ne_eqb, lt-ltb, le-ltb, or_parts}
 use Rattle.std.proofs.lemmas.List.Elements.{filter-append}
 use Rattle.std.proofs.lemmas.List.Folds.{list_any-append, list_any_none}
 use Rattle.std.proofs.Math.Seq.{take-append_seam}
 use Rattle.std.specs.List.{All, AllZip, filter}
 use Rattle.std.specs.Str.Lines.{lines}
-use Rattle.hex_file.specs.Faults.{has_end, clash_at, line_fault, AreFaultless, IsOfFirstLine}
+use Rattle.hex_file.specs.Faults.{has_end, clash_at, AreFaultless}
 use Rattle.hex_file.specs.ImageOf.{HexRecord, IsRecordLine}
 use Rattle.hex_file.specs.Tables.{IsTable, IsGivenBy}
-use Rattle.hex_file.specs.declared.faults.HexFault.{HexFault}
-use Rattle.hex_file.specs.declared.faults.HexFault.TheVariants.{AfterEnd}
 use Rattle.hex_file.proofs.AgreeFacts.{agree_more}
-use Rattle.hex_file.proofs.FaultFacts.{behind_end}
 
 -- End records.
 
@@ -131,23 +128,3 @@ read_line bytes rest line more number table after ended read first some by = rec
   given = by.given;
   is_end = by.is_end ∙ sym (end_more read.records by.found (sym read.is_end));
 }
-
--- A fault in the next line.
-
-pub fault_of_next : (bytes rest line more : List ℕ) (number : ℕ) (table : List (Option ℕ)) (ended : Bool) (fault : HexFault) (read : AreRead bytes rest number table ended)
-    → lines rest ≡ line ∷ lines more → 0 < length line → line_fault read.records (number + 1) line ≡ Some fault → IsOfFirstLine bytes fault
-fault_of_next bytes rest line more number table ended fault read first some told = record {
-  before = read.before;
-  line = line;
-  after = lines more;
-  records = read.records;
-  split = read.split ∙ ap (λ ls. read.before ++ ls) first;
-  faultless = read.faultless;
-  filled = some;
-  told = ap (λ n. line_fault read.records (n + 1) line) read.counted ∙ told;
-}
-
-pub after_end : (bytes rest line more : List ℕ) (number : ℕ) (table : List (Option ℕ)) → AreRead bytes rest number table true
-    → lines rest ≡ line ∷ lines more → 0 < length line → IsOfFirstLine bytes (AfterEnd (number + 1))
-after_end bytes rest line more number table read first some =
-    fault_of_next bytes rest line more number table true (AfterEnd (number + 1)) read first some (behind_end read.records (number + 1) line (sym read.is_end))

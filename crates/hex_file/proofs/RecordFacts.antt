@@ -155,12 +155,6 @@ got_of_record : (r : HexRecord) (check : ℕ) → got_sum (record_bytes r check)
 got_of_record r check =
     ap (slice_index (record_bytes r check)) (let e : length r.payload + 4 ≡ suc (suc (suc (suc (length r.payload)))) = omega arith in e) ∙ get_or_push r.payload check 0 (length r.payload) refl
 
-prefix_of_record : (r : HexRecord) (check : ℕ)
-    → take (length r.payload + 4) (record_bytes r check) ≡ length r.payload ∷ r.address / 256 ∷ r.address % 256 ∷ r.kind ∷ r.payload
-prefix_of_record r check =
-    ap (λ n. take n (record_bytes r check)) (let e : length r.payload + 4 ≡ suc (suc (suc (suc (length r.payload)))) = omega arith in e)
-    ∙ ap (λ prefix. length r.payload ∷ r.address / 256 ∷ r.address % 256 ∷ r.kind ∷ prefix) (take-append_seam r.payload (check ∷ []))
-
 record_of_bytes : (r : HexRecord) (check : ℕ) → record_in (record_bytes r check) ≡ r
 record_of_bytes r check =
     let address : 256 * (r.address / 256) + r.address % 256 ≡ r.address = omega arith in

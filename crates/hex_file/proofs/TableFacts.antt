@@ -30,13 +30,6 @@ items_same item n is = rw add-one (ap (λ o. items_below item n ++ option_to_lis
 pub table_of_none : (table : List (Option ℕ)) → length table ≡ 0x10000 → ((address : ℕ) → slice_index_or table address None ≡ None) → IsTable [] table
 table_of_none table size none = record { size = size; at = λ address below. none address }
 
-pub none_more : (table : List (Option ℕ)) → ((address : ℕ) → slice_index_or table address None ≡ None)
-    → (address : ℕ) → slice_index_or (table ++ None ∷ []) address None ≡ None
-none_more [] none zero = refl
-none_more [] none (suc address) = refl
-none_more (x ∷ xs) none zero = none 0
-none_more (x ∷ xs) none (suc address) = none_more xs (λ k. none (suc k)) address
-
 -- A number above all those of a list that rises.
 rising_more : (ks : List ℕ) (last : ℕ) → IsStrictlyIncreasing ks → ((k : ℕ) → k < length ks → slice_index ks k < last) → IsStrictlyIncreasing (ks ++ last ∷ [])
 rising_more ks last rising above k below = ⊎_elim

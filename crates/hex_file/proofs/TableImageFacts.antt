@@ -16,7 +16,7 @@ use Rattle.hex_file.proofs.AgreeFacts.{gives, given_by, gives_of_given, given_of
 use Rattle.hex_file.proofs.ReadFacts.{end_more, init_of_more, ends_none}
 use Rattle.hex_file.proofs.GivenByteFacts.{word_at as one_word}
 use Rattle.hex_file.proofs.GivenFacts.{given_more, or_none, byte_of_other}
-use Rattle.hex_file.proofs.ImageMadeFacts.{given_below}
+use Rattle.hex_file.proofs.OrderFacts.{given_below}
 use Rattle.hex_file.proofs.TableFacts.{Listed, listed, some_or_none}
 
 module _ (records : List HexRecord) (table : List (Option ℕ)) (is : IsTable records table) (agreed : Agree records) where

@@ -9,7 +9,7 @@ use Rattle.hex_file.specs.ImageOf.{GivesByte, Agree, GivesWord, AreBytesAside, I
 use Rattle.hex_file.specs.Written.{IsWritable, RisesFrom, word_bytes, written}
 use Rattle.hex_file.proofs.GivenByteFacts.{IsFromPayload, IsFromRecords, given_bytes, gives_byte, word_at}
 use Rattle.hex_file.proofs.ImageLaws.{held, holds_none, holds_first, holds_later}
-use Rattle.hex_file.proofs.ImageMadeFacts.{rising_from}
+use Rattle.hex_file.proofs.OrderFacts.{rising_from}
 use Rattle.hex_file.proofs.PieceFacts.{IsPiece, Successive, flat, all_append}
 use Rattle.hex_file.proofs.WrittenRecordFacts.{Fits, all_are_pieces, all_flat, all_pieces, all_words, config_words, record_for, records_of, spells_records}
 

@@ -16,10 +16,9 @@ use Rattle.pic_isa.specs.Names.{register_at}
 use Rattle.pic_regs.specs.declared.places.Place.{Place}
 use Rattle.pic_regs.specs.declared.places.Place.TheVariants as place
 use Rattle.pic_regs.specs.Bytes.{bit, bits}
-use Rattle.pic_regs.specs.Map.{Plain, reg_at}
+use Rattle.pic_regs.specs.Map.{reg_at}
 use Rattle.pic_regs.specs.Places.{reg_of}
 use Rattle.bank_alloc.specs.declared.needs.Needs.{Needs}
-use Rattle.bank_alloc.specs.Addresses.{address_of}
 use Rattle.priority_masks.specs.declared.tables.Enables.{Enables}
 use Rattle.code_steps.specs.declared.banks.Bank.{Bank}
 use Rattle.code_steps.specs.declared.banks.Bank.TheVariants.{Known}
@@ -28,20 +27,9 @@ use Rattle.glue_steps.specs.declared.lines.Line.{Line}
 use Rattle.glue_steps.specs.declared.lines.Line.TheVariants.{Bit}
 use Rattle.glue_parts.specs.declared.stretches.Stretch.{Stretch}
 use Rattle.glue_parts.specs.Places.{bank_of, named}
-use Rattle.glue_parts.specs.Pieces.{Adds, bank_changed, lines_to_change, lines_to_choose, lines_to_write}
+use Rattle.glue_parts.specs.Pieces.{Adds, lines_to_write}
 use Rattle.isr_vector.specs.Booting.{Write, lines_of_writes, bank_written, bytes_of_value, bytes_of_values, cell_writes, write_at, setup_writes, boot_writes, first_bytes, enable_line, enable_lines}
 use Rattle.isr_vector.proofs.StateLaws.{first-is}
-
--- The next value's bytes are added.
-pub more_bytes : (vs : List Value) (i : ℕ) (v : Value) (xs ys zs : List ℕ) → i < length vs → v ≡ get_or vs i v → ys ≡ xs ++ bytes_of_value (type_of_value v) (number_of v)
-    → xs ++ flat_map (λ (v : Value). bytes_of_value (type_of_value v) (number_of v)) (drop i vs) ≡ zs
-    → ys ++ flat_map (λ (v : Value). bytes_of_value (type_of_value v) (number_of v)) (drop (i + 1) vs) ≡ zs
-more_bytes vs i v xs ys zs inside item added before =
-    let bytes = λ (v : Value). bytes_of_value (type_of_value v) (number_of v) in
-    let rest = flat_map bytes (drop (suc i) vs) in
-    rw add-one
-    (ap (λ q. q ++ rest) added ∙ append_assoc xs (bytes v) rest ∙ ap (λ u. xs ++ (bytes u ++ rest)) item
-    ∙ sym (ap (λ q. xs ++ flat_map bytes q) (drop-cons vs i v inside)) ∙ before)
 
 -- Those of all values of a state are the state's.
 type_is : (t : Ty) (v : Value) → IsOf t v → t ≡ type_of_value v
@@ -79,21 +67,6 @@ one_more w rest now later first all adds come =
       lines = ap₂ (λ xs b. xs ++ lines_of_writes b rest) adds.lines adds.bank ∙ append_assoc now.lines.items (lines_to_write now.bank w.place w.byte) (lines_of_writes there rest) ∙ come.lines;
       bank = ap (λ b. bank_written b rest) adds.bank ∙ come.bank;
     }
-
-pub none_to_come : (now first : Stretch) (all rest : List Write) → rest ≡ [] → ToCome now rest first all → Adds first (lines_of_writes first.bank all) (bank_written first.bank all) now
-none_to_come now first all rest none come =
-    let last = subst (λ ws. ToCome now ws first all) none come in
-    record { lines = sym (append-nil now.lines.items) ∙ last.lines; bank = last.bank }
-
-pub one_cell : (need : Needs) (bytes : List ℕ) (cell at : ℕ) (now later first : Stretch) (all : List Write) → cell < length bytes → at ≡ address_of need cell
-    → Adds now (lines_to_write now.bank (place.Plain at) (get_or bytes cell 0)) (moved now.bank (bank_of (Plain at))) later
-    → ToCome now (cell_writes need cell (drop cell bytes)) first all → ToCome later (cell_writes need (cell + 1) (drop (cell + 1) bytes)) first all
-one_cell need bytes cell at now later first all inside there adds come =
-    let w : Write = record { place = place.Plain (address_of need cell); byte = get_or bytes cell 0 } in
-    rw add-one
-    (one_more w (cell_writes need (suc cell) (drop (suc cell) bytes)) now later first all
-    (subst (λ a. Adds now (lines_to_write now.bank (place.Plain a) (get_or bytes cell 0)) (moved now.bank (bank_of (Plain a))) later) there adds)
-    (subst (λ bs. ToCome now (cell_writes need cell bs) first all) (drop-cons bytes cell 0 inside) come))
 
 named_back : (p : Place) → named (reg_of p) ≡ p
 named_back place.Absent = refl
@@ -139,24 +112,6 @@ adds_next lines behind bank xs first now later before adds = record {
   lines = adds.lines ∙ ap₂ (λ ys b. ys ++ lines b) before.lines before.bank ∙ append_assoc first.lines.items xs (lines bank);
   bank = adds.bank ∙ ap behind before.bank;
 }
-
--- All enables.
-pub enables_added : (enables : Enables) (s0 s1 s2 s3 s4 s5 s6 : Stretch)
-    → Adds s0 (lines_to_change s0.bank place.Pie1 enables.pie1 enables.pie1) (bank_changed s0.bank place.Pie1 enables.pie1) s1
-    → Adds s1 (lines_to_change s1.bank place.Pie2 enables.pie2 enables.pie2) (bank_changed s1.bank place.Pie2 enables.pie2) s2
-    → Adds s2 (lines_to_choose s2.bank 0) (Known 0) s3 → Adds s3 (enable_line enables 5) s3.bank s4 → Adds s4 (enable_line enables 4) s4.bank s5 → Adds s5 (enable_line enables 6) s5.bank s6
-    → Adds s0 (enable_lines s0.bank enables) (Known 0) s6
-enables_added enables s0 s1 s2 s3 s4 s5 s6 pie1 pie2 choice t0 int peie =
-    let first = bank_changed s0.bank place.Pie1 enables.pie1 in
-    let second = bank_changed first place.Pie2 enables.pie2 in
-    let a = lines_to_change s0.bank place.Pie1 enables.pie1 enables.pie1 in
-    let b = lines_to_change first place.Pie2 enables.pie2 enables.pie2 in
-    let d = lines_to_choose second 0 in
-    let two = adds_next (λ bank. lines_to_change bank place.Pie2 enables.pie2 enables.pie2) (λ bank. bank_changed bank place.Pie2 enables.pie2) first a s0 s1 s2 pie1 pie2 in
-    let three = adds_next (λ bank. lines_to_choose bank 0) (λ bank. Known 0) second (a ++ b) s0 s2 s3 two choice in
-    let four = adds_next (λ bank. enable_line enables 5) (λ bank. bank) (Known 0) (a ++ b ++ d) s0 s3 s4 three t0 in
-    let five = adds_next (λ bank. enable_line enables 4) (λ bank. bank) (Known 0) (a ++ b ++ d ++ enable_line enables 5) s0 s4 s5 four int in
-    adds_next (λ bank. enable_line enables 6) (λ bank. bank) (Known 0) (a ++ b ++ d ++ enable_line enables 5 ++ enable_line enables 4) s0 s5 s6 five peie
 
 -- Writes in two parts.
 lines-parts : (bank : Bank) (xs ys : List Write) → lines_of_writes bank (xs ++ ys) ≡ lines_of_writes bank xs ++ lines_of_writes (bank_written bank xs) ys

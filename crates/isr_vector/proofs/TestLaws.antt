@@ -1,5 +1,5 @@
 -- Tests of events, one after another, and the last event.
-use Rattle.std.proofs.Common.{◌≡◌, ℕ, suc, ◌+◌, ◌*◌, ◌<◌, ◌≤◌, Bool, true, false, ◌⊎◌, if◌then◌else◌, List, [], ◌∷◌, ◌++◌, drop, length, map, get_or, refl, sym, ap, ap₂, subst, ◌∙◌, append_assoc, add-one, drop-cons, arith, length-append, inl, inr}
+use Rattle.std.proofs.Common.{◌≡◌, ℕ, ◌+◌, ◌*◌, ◌<◌, ◌≤◌, Bool, true, false, ◌⊎◌, if◌then◌else◌, List, [], ◌∷◌, ◌++◌, length, map, refl, sym, ap, ap₂, subst, ◌∙◌, arith, length-append, inl, inr}
 use Rattle.pic_isa.specs.declared.sources.Source.{Source}
 use Rattle.code_items.specs.declared.items.Item.{Item}
 use Rattle.code_items.specs.declared.items.Item.TheVariants.{Ins, Jump}
@@ -16,18 +16,6 @@ use Rattle.isr_vector.specs.Taking.{context_saved, tests_of, all_but_last, last_
 pub tests-append : (ts : List FlagTest) (xs ys : List Item) → test_items ts (xs ++ ys) ≡ test_items ts xs ++ ys
 tests-append [] xs ys = refl
 tests-append (t ∷ ts) xs ys = ap (λ items. Ins (skip_of t.source) ∷ Jump t.entry ∷ items) (tests-append ts xs ys)
-
-pub one_more_test : (source : ℕ → Source) (s : Source) (events : List ℕ) (i : ℕ) (xs ys zs : List Item) → i < length events
-    → source (get_or events i 0) ≡ s → ys ≡ (xs ++ Ins (skip_of s) ∷ []) ++ Jump (mark (Entry (get_or events i 0))) ∷ []
-    → xs ++ test_items (tests_of source (drop i events)) [] ≡ zs → ys ++ test_items (tests_of source (drop (i + 1) events)) [] ≡ zs
-one_more_test source s events i xs ys zs inside its added before =
-    let event = get_or events i 0 in
-    let rest = test_items (tests_of source (drop (suc i) events)) [] in
-    let jump : Item = Jump (mark (Entry event)) in
-    rw add-one
-    (ap (λ q. q ++ rest) added ∙ append_assoc (xs ++ Ins (skip_of s) ∷ []) (jump ∷ []) rest ∙ append_assoc xs (Ins (skip_of s) ∷ []) (jump ∷ rest)
-    ∙ sym (ap (λ t. xs ++ Ins (skip_of t) ∷ jump ∷ rest) its)
-    ∙ sym (ap (λ q. xs ++ test_items (tests_of source q) []) (drop-cons events i 0 inside)) ∙ before)
 
 -- All but the last, and the last.
 but_last : (tested : List ℕ) (last : ℕ) → all_but_last (tested ++ last ∷ []) ≡ tested

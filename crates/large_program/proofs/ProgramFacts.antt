@@ -23,9 +23,6 @@ definitions_more n i ds d so_far is =
 pub eight_more : (n i : ℕ) → after_draws 8 (after_draws (8 * i) n) ≡ after_draws (8 * (i + 1)) n
 eight_more n i = let e : 8 + 8 * i ≡ 8 * (i + 1) = omega (arith) in sym (more_draws 8 (8 * i) n) ∙ ap (λ (k : ℕ). after_draws k n) e
 
-pub two_more : (s i : ℕ) → after_draws 2 (after_draws (2 * i) s) ≡ after_draws (2 * (i + 1)) s
-two_more s i = let e : 2 + 2 * i ≡ 2 * (i + 1) = omega (arith) in sym (more_draws 2 (2 * i) s) ∙ ap (λ (k : ℕ). after_draws k s) e
-
 pub arrivals_more : (n i : ℕ) (xs : List OneArrival) (a : OneArrival) → xs ≡ arrivals_below n i → a ≡ nth_arrival n i → xs ++ a ∷ [] ≡ arrivals_below n (i + 1)
 arrivals_more n i xs a so_far is =
     ap (λ (ys : List OneArrival). ys ++ a ∷ []) so_far ∙ ap (λ (x : OneArrival). arrivals_below n i ++ x ∷ []) is

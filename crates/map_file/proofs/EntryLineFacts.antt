@@ -35,9 +35,6 @@ use Rattle.map_file.proofs.FieldCutFacts.{is_visible, AllVisible, line_whole}
 
 -- Each byte of a field is above the space.
 
-visible : List ℕ → Type 0
-visible bs = list_all is_visible bs ≡ true
-
 name_byte : (b : ℕ) → (is_letter b || is_digit b) ≡ true → is_visible b ≡ true
 name_byte b h = grind (arith, nat_tests)
 

@@ -5,7 +5,7 @@ use Rattle.std.specs.Str.{bytes_eq}
 use Rattle.pic_isa.specs.declared.sources.Source.{Source}
 use Rattle.pic_isa.specs.declared.sources.Source.TheVariants.{T0}
 use Rattle.pic_isa.specs.Sources.{sources, source_name}
-use Rattle.pic_isa.specs.Names.{register_at, port_at, name_of_port}
+use Rattle.pic_isa.specs.Names.{port_at, name_of_port}
 
 -- The sources, each behind its name.
 abbrev sources_by_name : List (List ℕ × Source)
@@ -32,6 +32,3 @@ port_called_back (suc (suc (suc (suc (suc n))))) h = absurd (omega arith)
 
 pub one_port : (p q : ℕ) → p < 5 → q < 5 → name_of_port p ≡ name_of_port q → p ≡ q
 one_port p q small small' e = let found : Some p ≡ Some q = sym (port_called_back p small) ∙ ap port_at e ∙ port_called_back q small' in cc found
-
-pub one_address : (name name' : List ℕ) (a b : ℕ) → register_at name ≡ Some a → register_at name' ≡ Some b → name ≡ name' → a ≡ b
-one_address name name' a b h k e = let found : Some a ≡ Some b = sym h ∙ ap register_at e ∙ k in cc found

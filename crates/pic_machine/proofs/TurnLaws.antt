@@ -1,19 +1,17 @@
 -- What a boundary does, where the word at the program counter, the request and the register are known by equations; when
 -- an interrupt is taken, and when one is due.
 use Rattle.std.specs.Prelude.{ℕ, suc, ◌+◌, Bool, true, false, not, ◌&&◌, ◌||◌, ◌⊎◌, Option, Some, None}
-use Rattle.std.proofs.Common.{rules, ◌≡◌, refl, sym, ap, ◌∙◌, inl, inr}
+use Rattle.std.proofs.Common.{rules, ◌≡◌, refl, ap, ◌∙◌, inl, inr}
 use Rattle.std.proofs.lemmas.Bool.{and_parts}
 use Rattle.pic_isa.specs.declared.instructions.Dest.{Dest}
 use Rattle.pic_isa.specs.declared.instructions.Dest.TheVariants.{W, F}
 use Rattle.pic_isa.specs.declared.instructions.Instr.{Instr}
 use Rattle.pic_isa.specs.declared.instructions.Instr.TheVariants.{Nop}
-use Rattle.pic_isa.specs.declared.sources.Source.{Source}
 use Rattle.pic_isa.specs.Instructions.{instruction_of}
 use Rattle.pic_regs.specs.Bytes.{one_if}
 use Rattle.pic_regs.specs.Map.{Reg, Pcl, Status}
 use Rattle.pic_regs.specs.Registers.{flag, requested}
 use Rattle.pic_regs.specs.Arrivals.{latched, merged}
-use Rattle.pic_regs.proofs.ArrivalLaws.{flag-arrived}
 use Rattle.pic_machine.specs.declared.steps.Did.TheVariants.{Ran}
 use Rattle.pic_machine.specs.Chip.{Chip, advanced}
 use Rattle.pic_machine.specs.Dids.{is_taking, is_stop}
@@ -226,10 +224,6 @@ latch true true = refl
 latch true false = refl
 latch false true = refl
 latch false false = refl
-
-pub flag-latched : (source : Source) (outer : Outer) (c : Chip)
-    → one_if (flag source c.regs) + one_if (latched outer.arrivals c.regs source) ≡ one_if (flag source (with_outer outer c).regs)
-flag-latched source outer c = latch (outer.arrivals source) (flag source c.regs) ∙ ap one_if (sym (flag-arrived source outer.arrivals c.regs))
 
 -- An instruction but SLEEP runs on.
 gives-goes_on : (d : Dest) (reg : Reg) (result : Outcome) (word : ℕ) (c x : Chip) → is_stop (ended word c (gives d reg result x)).did ≡ false

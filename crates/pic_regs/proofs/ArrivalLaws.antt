@@ -7,12 +7,9 @@ use Rattle.pic_isa.specs.Sources.{flag_of}
 use Rattle.pic_regs.specs.Bytes.{bit}
 use Rattle.pic_regs.specs.FlagBits.{flags_at, with_flag_at}
 use Rattle.pic_regs.specs.Single.{only}
-use Rattle.pic_regs.specs.Registers.{Registers, flag, enable}
+use Rattle.pic_regs.specs.Registers.{Registers, flag}
 use Rattle.pic_regs.specs.Arrivals.{Sources, no_source, set_of, number_of, arrived}
 use Rattle.pic_regs.proofs.ByteLaws.{one_if-odd, one_if-small, bit-num}
-
-pub arrived-none : (r : Registers) → arrived no_source r ≡ r
-arrived-none r = refl
 
 -- The set that 0 is.
 pub set_of-zero : set_of 0 ≡ no_source
@@ -26,10 +23,6 @@ set_of-zero = fun_ext is_absent
 pub flag-arrived : (source : Source) (arrivals : Sources) (r : Registers) → flag source (arrived arrivals r) ≡ (arrivals source || flag source r)
 flag-arrived T0 arrivals r = refl
 flag-arrived _ arrivals r = refl
-
-pub enable-arrived : (source : Source) (arrivals : Sources) (r : Registers) → enable source (arrived arrivals r) ≡ enable source r
-enable-arrived T0 arrivals r = refl
-enable-arrived _ arrivals r = refl
 
 -- A source's flag is the bit that the table of sources gives, and so is the one that its arrival sets.
 pub flag-at : (source : Source) (r : Registers) → bit (flag_of source).bit (flags_at (flag_of source).address r) ≡ flag source r

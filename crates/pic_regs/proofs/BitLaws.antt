@@ -4,7 +4,7 @@ use Rattle.std.specs.Prelude.{bit_xor}
 use Rattle.std.specs.Int.{bit_at, bit_not}
 use Rattle.std.proofs.lemmas.Bool.{ne_eqb}
 use Rattle.std.proofs.lemmas.Nat.Bits.{bit_at_lowest, bit_at_and, bit_at_or, bit_at_xor, bit_at_not, bit_at-lt, shr_and_one}
-use Rattle.pic_regs.specs.Bytes.{Byte, num, bits, one_if, bit, with_bit, bit_by_bit, chosen, is_zero, share_a_bit, swapped}
+use Rattle.pic_regs.specs.Bytes.{Byte, num, bits, one_if, bit, with_bit, bit_by_bit, chosen, is_zero, swapped}
 use Rattle.pic_regs.proofs.ByteLaws.{by_each_bit, num-bits}
 
 pub bit-bits : (i n : ℕ) → i < 8 → bit i (bits n) ≡ (bit_at n i == 1)
@@ -118,13 +118,6 @@ zero-bits n small =
     let x : Byte = bits n in
     let itself : n ≡ num x = (let m : n ≡ n % 256 = omega (arith, small) in m) ∙ sym (num-bits n) in
     ap (λ m. m == 0) itself ∙ zero_test x.b7 x.b6 x.b5 x.b4 x.b3 x.b2 x.b1 x.b0
-
-not_not : (b : Bool) → not (not b) ≡ b
-not_not true = refl
-not_not false = refl
-
-pub not_zero-both : (x y : Byte) → not (is_zero (bit_by_bit (λ p q. p && q) x y)) ≡ share_a_bit x y
-not_zero-both x y = not_not (share_a_bit x y)
 
 -- A number is the byte whose bits it has.
 pub num_of : (n : ℕ) (x : Byte) → n < 256 → bits n ≡ x → n ≡ num x

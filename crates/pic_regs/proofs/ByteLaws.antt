@@ -1,18 +1,6 @@
 -- Bytes and numbers: each is the other's, up to 256.
 use Rattle.std.proofs.Common.{◌≡◌, ℕ, ◌%◌, ◌/◌, ◌<◌, ◌≤◌, ◌==◌, Bool, true, false, refl, ap, ◌∙◌, arith, lit≤, lit<, suc}
-use Rattle.pic_regs.specs.Bytes.{Byte, num, bits, one_if, swapped, with_bit, bit}
-
-low_byte : num (bits 0x13A7) ≡ 0xA7
-low_byte = refl
-
-high_bits : num (bits 0xFFFF) ≡ 0xFF
-high_bits = refl
-
-halves_exchanged : num (swapped (bits 0xA5)) ≡ 0x5A
-halves_exchanged = refl
-
-bit_moved : num (with_bit 7 (bit 1 (bits 0xFD)) (bits 0xFF)) ≡ 0x7F
-bit_moved = refl
+use Rattle.pic_regs.specs.Bytes.{Byte, num, bits, one_if, bit}
 
 -- A bit of a number, as 1 or 0.
 pub one_if-odd : (n : ℕ) → one_if ((n % 2) == 1) ≡ n % 2

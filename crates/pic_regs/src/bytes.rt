@@ -74,7 +74,7 @@ pub fn has_no_bit(byte: u8) -> bool
 }
 
 /// Some bit is 1 in both bytes.
-pub fn have_a_bit_in_common(x: u8, y: u8) -> bool
+pub(crate) fn have_a_bit_in_common(x: u8, y: u8) -> bool
     ensures { result ≡ share_a_bit (bits x) (bits y) }
 {
     !has_no_bit(both(x, y))

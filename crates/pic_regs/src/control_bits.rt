@@ -18,13 +18,6 @@ impl Regs {
         self.status
     }
 
-    /// Makes STATUS a byte, TO and PD too.
-    pub fn set_status(&mut self, byte: u8)
-        ensures { registers_of self.new ≡ changed Status (λ old. bits byte) (registers_of self.old) }
-    {
-        self.status = byte;
-    }
-
     /// The bank that RP1 and RP0 choose, 0 to 3.
     pub fn bank(&self) -> u8
         ensures bank { result ≡ 2 * one_if (registers_of self.now).status.b6 + one_if (registers_of self.now).status.b5 }

@@ -28,12 +28,6 @@ use Rattle.preempt_core.proofs.GoesFacts.{Goes, latches, merges, takes, works, r
 use Rattle.preempt_core.proofs.MarkLaws.{marks_look_back}
 use Rattle.preempt_core.proofs.SerialLaws.{always_lawful}
 
--- An item of a list of which this holds.
-pub all_at : {A : Type 0} (P : A → Type 0) (xs : List A) (i : ℕ) (d : A) → i < length xs → AllByRecursion P xs → P (get_or xs i d)
-all_at P [] i d low all = absurd (omega arith)
-all_at P (x ∷ xs) zero d low all = all.0
-all_at P (x ∷ xs) (suc i) d low all = all_at P xs i d (omega arith) all.1
-
 -- The priorities of few events that have priorities are few.
 pub few_events : (p : ProgramTree) → length p.events ≤ 11 → HasPriorities p → FewEvents (event_priorities p)
 few_events p few have = record { few = let many = length-map p.events (λ (x : Event). x.priority) in omega (arith, few, many); low = λ e below. low p.events e have }

@@ -1,12 +1,11 @@
 -- The enables of the events up to one.
 use Rattle.std.specs.Prelude.{◌≡◌, ◌≢◌, ℕ, zero, suc, ◌+◌, ◌<◌, ◌^◌, ◌↔◌, bit_or, max, refl}
 use Rattle.std.specs.Int.{bit_at}
-use Rattle.std.proofs.Common.{sym, ap, subst, ◌∙◌, arith, inl, inr, lit<}
+use Rattle.std.proofs.Common.{sym, ap, subst, ◌∙◌, arith, inl, inr}
 use Rattle.std.proofs.lemmas.Bool.Decides.{eqb_tells}
-use Rattle.std.proofs.lemmas.Nat.Bits.{bit_at_or, bit_at-zero, bit_at-lt, bit_at-pow_same, bit_at-pow_other}
+use Rattle.std.proofs.lemmas.Nat.Bits.{bit_at_or, bit_at-lt, bit_at-pow_same, bit_at-pow_other}
 use Rattle.frp_tree.specs.Tree.{ProgramTree}
 use Rattle.pic_isa.specs.declared.sources.Source.{Source}
-use Rattle.pic_isa.specs.declared.sources.Source.TheVariants.{T0}
 use Rattle.pic_isa.specs.declared.sources.BitAt.{BitAt}
 use Rattle.pic_isa.specs.Sources.{at, enable_of, source_name}
 use Rattle.pic_isa.proofs.UniqueNameLaws.{one_source}
@@ -20,9 +19,6 @@ IsAboveAmong p level n source = (event : ℕ) × (event < n) × (event_source p 
 -- The byte of a register with the enables of the first events.
 abbrev pub HasEnablesOf : ProgramTree → ℕ → ℕ → ℕ → ℕ → Type 0
 HasEnablesOf p level register n byte = (bit : ℕ) → (bit_at byte bit ≡ 1) ↔ ((source : Source) × (enable_of source ≡ at register bit) × IsAboveAmong p level n source)
-
-pub none-of-none : (p : ProgramTree) (level register : ℕ) → HasEnablesOf p level register 0 0
-none-of-none p level register bit = let z = bit_at-zero bit in (λ set. absurd (omega (arith, z, set)), λ its. let less = its.2.1 in absurd (omega (arith, less)))
 
 -- One source is told of one event.
 told : (p : ProgramTree) (n k : ℕ) (s t : Source) → k ≡ n → event_source p n ≡ source_name s → event_source p k ≡ source_name t → t ≡ s
@@ -85,8 +81,3 @@ added p level register n byte s own above there before bit =
                 or ∙ left-set (bit_at byte bit) (bit_at (2 ^ own_bit) bit) (bit_at-lt (2 ^ own_bit) bit) ((before bit).1 (its.0, its.1, (its.2.0, omega (arith, less, no), its.2.2, its.2.3)))
           ],
     )
-
--- The bit of an enable is one of a byte.
-pub bit-below : (s : Source) → (enable_of s).bit < 8
-bit-below T0 = lit< tt
-bit-below _ = lit< tt

@@ -1,18 +1,12 @@
 -- Acts that loops have written so far.
-use Rattle.std.proofs.Common.{◌≡◌, ℕ, zero, suc, ◌+◌, List, ◌++◌, refl, sym, ap, ◌∙◌, add-one, append_assoc, append-nil}
+use Rattle.std.proofs.Common.{◌≡◌, ℕ, zero, suc, ◌+◌, List, ◌++◌, sym, ap, ◌∙◌, add-one, append_assoc, append-nil}
 use Rattle.code_acts.specs.declared.acts.Act.{Act}
-use Rattle.product_templates.specs.Templates.{long_start, carrying, long_product, repeated}
+use Rattle.product_templates.specs.Templates.{long_start, carrying, repeated}
 
 -- A long product with so many of its bits.
 abbrev pub long_so_far : ℕ → List Act
 long_so_far zero = long_start
 long_so_far (suc i) = long_so_far i ++ carrying i
-
-pub long_so_far-next : (i : ℕ) → long_so_far (i + 1) ≡ long_so_far i ++ carrying i
-long_so_far-next i = ap long_so_far (add-one i)
-
-pub long_so_far-all : long_so_far 8 ≡ long_product
-long_so_far-all = refl
 
 repeated-suc : (n : ℕ) (acts : List Act) → acts ++ repeated n acts ≡ repeated n acts ++ acts
 repeated-suc zero acts = append-nil acts

@@ -1,8 +1,7 @@
 -- A definition's clause for an event: it has a type, few nodes, and is what the definition costs.
-use Rattle.std.specs.Prelude.{◌≡◌, ℕ, ◌≤◌, Bool, List, Some, IsSome, refl}
+use Rattle.std.specs.Prelude.{◌≡◌, ℕ, ◌≤◌, List, Some, IsSome, refl}
 use Rattle.std.proofs.Common.{ap, arith, subst, sym, ◌∙◌}
 use Rattle.std.proofs.lemmas.Option.{none-some}
-use Rattle.frp_tree.specs.declared.syntax.Lit.{Lit}
 use Rattle.frp_tree.specs.declared.syntax.Ty.{Ty}
 use Rattle.frp_tree.specs.Limits.{nodes, nodes_in}
 use Rattle.frp_tree.specs.Tree.{Tree, ClauseTree, BehaviourTree, Plain, Input, Table, Reactive, ProgramTree}
@@ -10,7 +9,7 @@ use Rattle.efrp_meaning.specs.Needs.{clause_for}
 use Rattle.efrp_meaning.specs.Types.{IsTypedAs, type_of}
 use Rattle.efrp_meaning.proofs.DefinedLaws.{ClauseTyped, clause-typed}
 use Rattle.event_needs.specs.Needed.{reacting_clause}
-use Rattle.program_bounds.specs.Costing.{of_clause, own_cost}
+use Rattle.program_bounds.specs.Costing.{of_clause}
 use Rattle.program_bounds.specs.Weighing.{AreTyped}
 use Rattle.program_bounds.proofs.FewFacts.{clause-few}
 use Rattle.program_bounds.proofs.TypedFacts.{are-typed}
@@ -36,7 +35,3 @@ module _ (p : ProgramTree) (event : List ℕ) (c : ClauseTree) where
       let most = clause-few p nodes 1 0 (λ e. omega arith) event clauses in
       let own : of_clause nodes (clause_for event clauses) ≡ nodes c.expr = ap (of_clause nodes) (sym is) in
       omega (arith, most, own, few)
-
--- What a reactive definition costs is what its clause does.
-pub reactive-cost : (f : Tree → ℕ) (input : ℕ) (event : List ℕ) (named : Bool) (b : BehaviourTree) (init : Lit) (clauses : List ClauseTree) → b ≡ Reactive init clauses → of_clause f (reacting_clause event b) ≡ own_cost f input event named b
-reactive-cost f input event named b init clauses is = ap (λ (k : BehaviourTree). of_clause f (reacting_clause event k)) is ∙ sym (ap (own_cost f input event named) is)

@@ -58,9 +58,6 @@ module _ (p : ProgramTree) (formed : IsWellFormed p) (copied off : ℕ) (few_cop
     pub steps-fit : all.settle + (3 * own.body + 4 * off) ≤ 110000000
     steps-fit = let within = sum-within steps-of p.events i event all.settle (3 * own.body + 4 * off) there so_far.settle its-steps in let few = all-steps-few in omega (arith, within, few)
 
-    pub own-fits : own.body ≤ 3277568
-    own-fits = let few = body-few p formed event.name in let is = its-body in omega (arith, few, is)
-
     pub totals-more : (scratch : ℕ) → scratch ≡ max all.scratch own.scratch
         → AreTotalsOf p copied off (take (i + 1) p.events) (record { words = all.words + (128 + own.body + copied); settle = all.settle + (3 * own.body + 4 * off); scratch = scratch })
     totals-more scratch is = record {

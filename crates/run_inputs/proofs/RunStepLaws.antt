@@ -22,7 +22,7 @@ use Rattle.run_inputs.specs.RunLines.{hex_line, map_line, script_line}
 use Rattle.command_parts.proofs.ToldLaws.{keeps_trans, told_before, if_all, if_map, if_both}
 use Rattle.command_parts.specs.Endings.{Gives}
 use Rattle.command_parts.specs.Reads.{Unread, NotHeld, NotRead, TooLong, unread_status, unread_line, IsUnread, IsInput, IsNext}
-use Rattle.run_inputs.specs.RunFaults.{RunRequest, AreInputs, AreParts, ArePartsOf, IsScriptIn, RunFault, FileUnread, BadHex, BadMap, BadScript, fault_status, fault_line, IsFirstFault, FaultCause}
+use Rattle.run_inputs.specs.RunFaults.{RunRequest, AreInputs, AreParts, IsScriptIn, FileUnread, BadHex, BadMap, BadScript, fault_status, fault_line, IsFirstFault, FaultCause}
 
 -- A halt stays one where the fault is told in another way, with the same status and line.
 pub halts : {A A' B B' : Type 0} (Good : A → Type 0) (Good' : A' → Type 0) (Bad : B → Type 0) (Bad' : B' → Type 0) (status : B → ℕ) (status' : B' → ℕ) (line : B → List ℕ) (line' : B' → List ℕ) (e : Halt)
@@ -109,15 +109,3 @@ pub script_refused : (slice bytes text : List ℕ) (n : ℕ) (cause : Cause) (fa
 script_refused slice bytes text n cause fault same is reads said =
     let first : script.first_fault slice ≡ Some (record { line = n; cause = cause }) = subst (λ (f : ScriptFault). script.Reads slice (Err f)) is reads in
     (record { line = n; cause = cause }, subst (λ (b : List ℕ). script.first_fault b ≡ Some (record { line = n; cause = cause })) same first, refl, said)
-
--- A fault of the bytes that were read is the cause of a fault of the whole.
-fault_of_inputs : (r : RunRequest) (a b : FilesSeen) (i : Inputs) (fault : RunFault) → AreInputs r a i → IsFirstFault i fault → FaultCause r a b fault
-fault_of_inputs r a b i (FileUnread name why) are is = absurd is
-fault_of_inputs r a b i (BadHex fault) are is = (i, are, is)
-fault_of_inputs r a b i (BadMap n) are is = (i, are, is)
-fault_of_inputs r a b i (BadScript n cause) are is = (i, are, is)
-
-pub parts_halts : (r : RunRequest) (a b : FilesSeen) (i : Inputs) (e : Halt) → AreInputs r a i
-    → Gives (AreParts i) (IsFirstFault i) fault_status fault_line (Err e) → Gives (ArePartsOf r a) (FaultCause r a b) fault_status fault_line (Err e)
-parts_halts r a b i e are =
-    halts (AreParts i) (ArePartsOf r a) (IsFirstFault i) (FaultCause r a b) fault_status fault_status fault_line fault_line e (λ fault is. (fault, fault_of_inputs r a b i fault are is, refl, refl))

@@ -132,12 +132,6 @@ module _ (need : Needs) (level : ℕ) (has : HasFrame need level) (u v : Bool) (
   abbrev at5 : ℕ
   at5 = address_of need (frame_cell need level 5)
 
-  low4 : IsLow at4
-  low4 = low_byte need level 4 has (lit< tt)
-
-  low5 : IsLow at5
-  low5 = low_byte need level 5 has (lit< tt)
-
   abbrev pies : List Deed
   pies = saving place.Pie1 (wanted u (place.Plain at4)) ++ saving place.Pie2 (wanted v (place.Plain at5))
 

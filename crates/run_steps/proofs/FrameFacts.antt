@@ -51,14 +51,6 @@ low_bank address low =
     let near : nat_lt (address % 128) 0x70 ≡ true = ap (λ n. nat_lt n 0x70) same ∙ lt-ltb address 0x70 below in
     ap (λ t. if t then Some (address / 128) else None) near ∙ ap Some first
 
--- A register that is in each bank, or in bank 0, is saved without a choice of bank.
-abbrev pub IsNear : Place → Type 0
-IsNear register = (bank_of (reg_of register) ≡ None) ⊎ (bank_of (reg_of register) ≡ Some 0)
-
-near_bank : (register : Place) → IsNear register → moved (Known 0) (bank_of (reg_of register)) ≡ Known 0
-near_bank register (inl everywhere) = ap (moved (Known 0)) everywhere
-near_bank register (inr first) = ap (moved (Known 0)) first
-
 pub saved_bank : (register : Place) (t : Bool) (address : ℕ) → IsLow address → (o : Bank) → moved o (bank_of (reg_of register)) ≡ Known 0 → o ≡ Known 0
     → bank_past o (saving register (wanted t (place.Plain address))) ≡ Known 0
 saved_bank register true address low o near begun = ap (λ b. moved b (bank_of (Plain address))) near ∙ ap (moved (Known 0)) (low_bank address low)

@@ -301,12 +301,6 @@ five_words false = omega arith
 
 module _ (paged : Bool) (program marks : ℕ → ℕ) (start stop : ℕ) (plan : Plan) (stands : Stands paged program marks start (run_items plan) stop)
     (instructions : AllByRecursion IsInstruction plan.work) (last : ends_skipping false plan.work ≡ false) where
-  abbrev A : List Line
-  A = lines_in (Known 0) (entering_in plan)
-
-  abbrev B : List Line
-  B = lines_in plan.bank restarting
-
   abbrev tail : List Item
   tail = tail_items plan
 

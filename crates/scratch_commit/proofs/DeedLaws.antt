@@ -28,10 +28,7 @@ pub bank_then : (bank : Bank) (xs ys : List Deed) → bank_past bank (xs ++ ys) 
 bank_then bank [] ys = refl
 bank_then bank (deed ∷ xs) ys = bank_then (bank_behind bank deed) xs ys
 
--- A stretch to which no deeds are added, one deed, or some and then others.
-pub does_none : (s : Stretch) → DoesMore s [] s
-does_none s = record { lines = sym (append_nil s.lines.items); bank = refl }
-
+-- A stretch to which one deed is added, or some and then others.
 pub does_one : (old new : Stretch) (deed : Deed) → Adds old (lines_of old.bank deed) (bank_behind old.bank deed) new → DoesMore old (deed ∷ []) new
 does_one old new deed adds = record {
   lines = adds.lines ∙ ap (λ lines. old.lines.items ++ lines) (sym (append_nil (lines_of old.bank deed)));

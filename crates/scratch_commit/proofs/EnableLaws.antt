@@ -202,10 +202,6 @@ same_bit : (b : ℕ) (x : Byte) → with_bit b (bit b x) x ≡ x
 same_bit (suc (suc (suc (suc (suc (suc (suc b))))))) x = refl
 same_bit _ x = refl
 
-set_where : (t : Bool) (b : ℕ) (x : Byte) → (if t then with_bit b true x else x) ≡ with_bit b (t || bit b x) x
-set_where true b x = refl
-set_where false b x = sym (same_bit b x)
-
 -- The registers with another byte in INTCON.
 abbrev with_intcon : Byte → Registers → Registers
 with_intcon x r = record r { intcon = x }

@@ -106,7 +106,3 @@ fields-cut text (x ∷ xs) rest n h e = ap fields_of e ∙ ap (filter (λ field.
 pub fields-last : (text : List ℕ) → Lacks 32 text → (length text == 0) ≡ false → fields_of text ≡ text ∷ []
 fields-last [] h some = cc
 fields-last (x ∷ xs) h some = ap (filter (λ field. nat_lt 0 (length field))) (split-last 32 (x ∷ xs) h) ∙ some_field x xs []
-
-pub fields-none : (text : List ℕ) → (length text == 0) ≡ true → fields_of text ≡ []
-fields-none [] h = refl
-fields-none (x ∷ xs) h = absurd (both_ways (length (x ∷ xs) == 0) (ne_eqb (length (x ∷ xs)) 0 (λ e. omega arith)) h)

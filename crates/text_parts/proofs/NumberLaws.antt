@@ -1,8 +1,8 @@
 -- The numbers that digits spell.
-use Rattle.std.proofs.Common.{◌≡◌, ℕ, ◌+◌, ◌*◌, ◌<◌, ◌≤◌, ◌||◌, true, List, [], ◌∷◌, length, get_or, drop, refl, sym, ◌∙◌, arith}
+use Rattle.std.proofs.Common.{◌≡◌, ℕ, ◌+◌, ◌*◌, ◌<◌, ◌≤◌, ◌||◌, true, List, [], ◌∷◌, length, get_or, drop, refl, ◌∙◌, arith}
 use Rattle.std.specs.List.{list_all}
 use Rattle.std.proofs.lemmas.Bool.{and_parts, and_from, or_left}
-use Rattle.std.proofs.lemmas.List.{at_drop_more, at_drop_all}
+use Rattle.std.proofs.lemmas.List.{at_drop_more}
 use Rattle.text_parts.specs.Bytes.{is_between, is_digit, is_hex_digit}
 use Rattle.text_parts.specs.Numbers.{value_after, digit_value}
 
@@ -26,7 +26,3 @@ pub value_past : (base before n most i : ℕ) (ds : List ℕ) → 0 < base → i
 value_past base before n most i ds h l e past =
     let at : value_after base before (drop i ds) ≡ value_after base before (get_or ds i 0 ∷ drop (i + 1) ds) = at_drop_more (value_after base before) ds i 0 l in
     omega (arith, value_grows base (before * base + digit_value (get_or ds i 0)) (drop (i + 1) ds) h)
-
--- After the last digit the number is whole.
-pub value_whole : (base before n i : ℕ) (ds : List ℕ) → length ds ≤ i → value_after base before (drop i ds) ≡ n → before ≡ n
-value_whole base before n i ds l e = sym (at_drop_all (value_after base before) ds i l) ∙ e

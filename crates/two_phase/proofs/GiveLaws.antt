@@ -8,7 +8,6 @@ use Rattle.std.proofs.lemmas.List.{append_assoc, append-nil}
 use Rattle.std.proofs.lemmas.List.Folds.{list_any-append}
 use Rattle.std.proofs.lemmas.List.Sums.{fold-append, sum_by-append, sum_by-cons}
 use Rattle.std.proofs.lemmas.Option.{slice_get_within}
-use mathlib.Core.Logic.{inl, inr}
 use Rattle.frp_tree.specs.Tree.{Tree, ClauseTree, BehaviourTree, Plain, Input, Table, Reactive, DeclTree, ProgramTree}
 use Rattle.efrp_meaning.specs.Causal.{IsCausalOn}
 use Rattle.efrp_meaning.specs.Decls.{decl_named, is_reactive}
@@ -83,11 +82,6 @@ read-by p s j event d (Plain e) is h = let k = ap kind h in absurd (omega (arith
 read-by p s j event d (Input port) is h = rw is refl
 read-by p s j event d (Table entries) is h = let k = ap kind h in absurd (omega (arith, k))
 read-by p s j event d (Reactive init clauses) is h = let k = ap kind h in let most = reactive-kind (clause_for event clauses) in absurd (omega (arith, k, most))
-
-or-last : (a b : Bool) → (a || (b || false)) ≡ true → (a ≡ true) ⊎ (b ≡ true)
-or-last true b h = inl refl
-or-last false true h = inr refl
-or-last false false h = absurd (false≢true h)
 
 or-none : (a b : Bool) → (a || (b || false)) ≡ false → (a ≡ false) × (b ≡ false)
 or-none true b h = absurd (false≢true (sym h))

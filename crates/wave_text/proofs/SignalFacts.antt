@@ -70,10 +70,6 @@ pub level-more : (xs : List Signal) (i : ℕ) (d : Signal) (before after : ℕ) 
 level-more xs i d before after h so_far now =
     now ∙ ap (λ l. max l (level_in (get_or xs i d ∷ []))) so_far ∙ sym (level-append (take i xs) (get_or xs i d ∷ [])) ∙ ap level_in (sym (take_more xs i d h))
 
-pub length-map : {X Y : Type 0} (f : X → Y) (xs : List X) → length (map f xs) ≡ length xs
-length-map f [] = refl
-length-map f (x ∷ xs) = ap suc (length-map f xs)
-
 -- A list of what elements become, one more, and all.
 pub map-more : {X Y : Type 0} (f : X → Y) (xs : List X) (i : ℕ) (d : X) (y : Y) (before after : List Y) → i < length xs → before ≡ map f (take i xs) → after ≡ before ++ y ∷ [] → y ≡ f (get_or xs i d)
     → after ≡ map f (take (i + 1) xs)

@@ -1,4 +1,4 @@
-use Rattle.std.proofs.Common.{◌≡◌, ℕ, ◌+◌, None, IfSome, List, [], ◌∷◌, ◌++◌, ◌<◌, ◌≤◌, get_or, length, take, sym, ap, subst, ◌∙◌, add-one, arith}
+use Rattle.std.proofs.Common.{◌≡◌, ℕ, ◌+◌, List, [], ◌∷◌, ◌++◌, ◌≤◌, get_or, length, take, sym, ap, subst, ◌∙◌, add-one, arith}
 use Rattle.std.proofs.Math.Seq.{take-length}
 use Rattle.hex_file.specs.Words.{words_from}
 use Rattle.hex_file.specs.Written.{RisesFrom}
