@@ -1,26 +1,39 @@
-// Programs played over lists of steps.
+// Steps of the core of priorities, and programs played over lists of steps.
 ghost use Rattle.std.specs.Prelude.{◌<◌, ◌≤◌, ◌^◌, length};
 ghost use Rattle.preempt_core.specs.Replays.{commit_steps};
 
-use causality::{Checked, orders};
-use efrp_syntax::parse;
-use efrp_types::{check_names, check_types, spelled_is_well_formed};
+use crate::helpers::checked;
+use causality::Checked;
 use frp_tree::{List, Value};
-use preempt_core::{Played, ReplayFault, Step, replay};
+use preempt_core::{Core, Done, Played, ReplayFault, Step, replay};
 use std::alloc::Global;
 use std::test::Fail;
 
-/// The checked program of a text; None where it has a fault.
-fn checked(alloc: Global, text: &str) -> Result<Option<Checked>, Fail> {
-    let program = parse(alloc, text.as_bytes())?;
-    let Ok(names) = check_names(alloc, &program) else {
-        return Ok(None);
-    };
-    spelled_is_well_formed();
-    let Ok(typed) = check_types(alloc, program, names) else {
-        return Ok(None);
-    };
-    Ok(orders(alloc, typed).ok())
+#[test]
+fn each_step_answers(rt: HostRuntime) {
+    // Of two events the second is the more urgent; it interrupts the first.
+    let steps = [
+        (Step::Take, None),
+        (Step::Arrive(0), Some(Done::Latched(0))),
+        (Step::Arrive(0), Some(Done::Merged(0))),
+        (Step::Take, Some(Done::Took(0))),
+        (Step::Work, Some(Done::Worked)),
+        (Step::Arrive(1), Some(Done::Latched(1))),
+        (Step::Take, Some(Done::Took(1))),
+        (Step::Resume, None),
+        (Step::Commit, Some(Done::Committed(1))),
+        (Step::Resume, Some(Done::Resumed)),
+        (Step::Commit, None),
+        (Step::Redo, Some(Done::Redone(0))),
+        (Step::Redo, None),
+        (Step::Commit, Some(Done::Committed(0))),
+        (Step::Resume, Some(Done::Resumed)),
+        (Step::Resume, None),
+    ];
+    let mut core = Core::new(&[1, 2]);
+    for (step, wanted) in steps {
+        assert!(rt; core.step(step) == wanted);
+    }
 }
 
 /// The replay of a program without inputs; None where it has one.
@@ -49,28 +62,6 @@ fn is_played(played: &Played, commits: &[u8], values: &[Value], ports: &[u8]) ->
         && played.ports.as_slice() == ports
 }
 
-/// The replay of the quotient over these steps; None where it has inputs or isn't checked.
-fn quotient_over(alloc: Global, steps: &[Step]) -> Result<Option<Result<Played, ReplayFault>>, Fail>
-    requires few { length steps.now < 2 ^ 32 }
-    requires commits { commit_steps steps.now ≤ 3 }
-{
-    match checked(alloc, QUOTIENT)? {
-        Some(c) => Ok(replay_without_inputs(alloc, &c, steps)),
-        None => Ok(None),
-    }
-}
-
-/// Why the quotient isn't played over these steps; None where it is.
-fn fault_over(alloc: Global, steps: &[Step]) -> Result<Option<ReplayFault>, Fail>
-    requires few { length steps.now < 2 ^ 32 }
-    requires commits { commit_steps steps.now ≤ 3 }
-{
-    match quotient_over(alloc, steps)? {
-        Some(Err(fault)) => Ok(Some(fault)),
-        _ => Ok(None),
-    }
-}
-
 /// A run of Low that is interrupted, and goes on to its commit as if it were not void.
 const WITHOUT_REDO: [Step; 10] = [
     Step::Arrive(0),
@@ -89,7 +80,7 @@ const WITHOUT_REDO: [Step; 10] = [
 fn begins_again_with_what_a_commit_left(rt: HostRuntime) -> Result<(), Fail> {
     let mut steps = WITHOUT_REDO;
     steps[7] = Step::Redo;
-    match quotient_over(rt.alloc(), &steps)? {
+    match replay_without_inputs(rt.alloc(), &checked(rt.alloc(), QUOTIENT)?, &steps) {
         Some(Ok(played)) => {
             assert!(rt; is_played(&played, &[1, 0], &[Value::U16(5), Value::U16(12000)], &[]));
         }
@@ -100,15 +91,10 @@ fn begins_again_with_what_a_commit_left(rt: HostRuntime) -> Result<(), Fail> {
 
 #[test]
 fn void_run_may_not_commit(rt: HostRuntime) -> Result<(), Fail> {
-    let fault = fault_over(rt.alloc(), &WITHOUT_REDO)?;
-    assert_eq!(rt; fault, Some(ReplayFault::NotAllowed(7)));
-    Ok(())
-}
-
-#[test]
-fn event_that_there_is_not_may_not_arrive(rt: HostRuntime) -> Result<(), Fail> {
-    let fault = fault_over(rt.alloc(), &[Step::Arrive(1), Step::Arrive(2)])?;
-    assert_eq!(rt; fault, Some(ReplayFault::NotAllowed(1)));
+    match replay_without_inputs(rt.alloc(), &checked(rt.alloc(), QUOTIENT)?, &WITHOUT_REDO) {
+        Some(Err(fault)) => assert_eq!(rt; fault, ReplayFault::NotAllowed(7)),
+        _ => assert!(rt; false),
+    }
     Ok(())
 }
 
@@ -143,14 +129,11 @@ const SUM: &str =
 
 #[test]
 fn each_commit_has_its_samples(rt: HostRuntime) -> Result<(), Fail> {
-    match checked(rt.alloc(), SUM)? {
-        Some(c) => match replay_of_two(rt.alloc(), &c, 7, 200)? {
-            Some(Ok(played)) => {
-                assert!(rt; is_played(&played, &[0, 0], &[Value::U8(207)], &[7, 7, 207, 200]));
-            }
-            _ => assert!(rt; false),
-        },
-        None => assert!(rt; false),
+    match replay_of_two(rt.alloc(), &checked(rt.alloc(), SUM)?, 7, 200)? {
+        Some(Ok(played)) => {
+            assert!(rt; is_played(&played, &[0, 0], &[Value::U8(207)], &[7, 7, 207, 200]));
+        }
+        _ => assert!(rt; false),
     }
     Ok(())
 }

@@ -1,7 +1,7 @@
 // The map of the firmware of a program of three levels, whose state of 16 bits begins in the last byte of bank 0.
+use crate::helpers::checked;
 use bank_alloc::{Needs, place};
 use causality::Checked;
-use checked_source::read;
 use expr_lower::Cells;
 use firmware_map::{Uses, map_of};
 use frp_tree::Ty;
@@ -75,10 +75,7 @@ fn map_with(alloc: Global, c: &Checked, pages: bool) -> Result<Map, Fail> {
 }
 
 fn map_of_lamp(alloc: Global, pages: bool) -> Result<Map, Fail> {
-    match read(alloc, LAMP.as_bytes()) {
-        Ok(c) => map_with(alloc, &c, pages),
-        Err(_fault) => Err(Fail::new("the program passes the checks")),
-    }
+    map_with(alloc, &checked(alloc, LAMP)?, pages)
 }
 
 fn range(from: u16, to: u16) -> Range {
@@ -108,7 +105,7 @@ fn has_state(map: &Map, n: usize, name: &str, ty: Ty, low: u16, high: u16) -> bo
 }
 
 #[test]
-fn map_names_events_states_and_outputs(rt: HostRuntime) -> Result<(), Fail> {
+fn map_has_each_field(rt: HostRuntime) -> Result<(), Fail> {
     let map = map_of_lamp(rt.alloc(), false)?;
     assert_eq!(rt; map.events.len(), 3);
     assert!(rt; has_event(&map, 0, "Tick", Source::Tmr1, 1));
@@ -120,23 +117,8 @@ fn map_names_events_states_and_outputs(rt: HostRuntime) -> Result<(), Fail> {
     assert!(rt; has_state(&map, 2, "level", Ty::U8, 0x0A1, 0x0A1));
     assert!(rt; map.outputs.as_slice() == [2, 4].as_slice());
     assert_eq!(rt; map.samples.len(), 0);
-    Ok(())
-}
-
-#[test]
-fn map_reports_numbers(rt: HostRuntime) -> Result<(), Fail> {
-    let map = map_of_lamp(rt.alloc(), false)?;
-    assert_eq!(rt; map.ready, 0x7FE);
-    assert_eq!(rt; map.depth, 3);
-    assert_eq!(rt; map.ram, 8);
-    assert_eq!(rt; map.words, 1234);
-    assert_eq!(rt; map.settle, 56789);
-    Ok(())
-}
-
-#[test]
-fn map_lists_what_is_written(rt: HostRuntime) -> Result<(), Fail> {
-    let map = map_of_lamp(rt.alloc(), false)?;
+    assert!(rt; map.ready == 0x7FE && map.depth == 3 && map.ram == 8);
+    assert!(rt; map.words == 1234 && map.settle == 56789);
     let listed = [
         range(0x003, 0x003),
         range(0x007, 0x007),
