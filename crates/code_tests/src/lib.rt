@@ -7,8 +7,6 @@
 #[cfg(test)]
 mod act_tests;
 #[cfg(test)]
-mod byte_tests;
-#[cfg(test)]
 mod code_tests;
 #[cfg(test)]
 mod event_tests;

@@ -206,17 +206,6 @@ fn operation(f: BinOp, wide: bool) -> Op
 }
 
 #[test]
-fn moves_agree(rt: HostRuntime) -> Result<(), Fail> {
-    let set = fault_of_numbers(rt.alloc(), &Op::Set { to: 300, k: 200 })?;
-    assert_eq!(rt; set, None);
-    let copy = fault_of_numbers(rt.alloc(), &Op::Copy { to: 300, a: 100 })?;
-    assert_eq!(rt; copy, None);
-    let complement = fault_of_numbers(rt.alloc(), &Op::Com { to: 300, a: 100 })?;
-    assert_eq!(rt; complement, None);
-    Ok(())
-}
-
-#[test]
 fn bools_agree(rt: HostRuntime) -> Result<(), Fail> {
     let negation = fault_of_bools(rt.alloc(), &Op::Not { to: 300, a: 100 })?;
     assert_eq!(rt; negation, None);
@@ -271,70 +260,75 @@ fn operators_agree(rt: HostRuntime) -> Result<(), Fail> {
     Ok(())
 }
 
-fn choice(wide: bool) -> Op
-    ensures { IsTrue (is_op_on 352 result) }
-{
-    let (to, c, a, b) = (TO, C, A, B);
-    Op::Choose { wide, to, c, a, b }
-}
-
-#[test]
-fn choices_agree(rt: HostRuntime) -> Result<(), Fail> {
-    for wide in [false, true] {
-        assert_eq!(rt;
-            fault_of_numbers(rt.alloc(), &choice(wide))?,
-            None,
-            "wide: {wide}"
-        );
-    }
-    Ok(())
-}
-
 fn shift(side: Side, wide: bool, n: u8) -> Op
     requires { IsTrue (nat_le n (most_shifted wide)) }
     ensures { IsTrue (is_op_on 352 result) }
 {
+    let (to, a) = (TO, A);
     Op::Shift {
         side,
         wide,
         n,
-        to: TO,
-        a: A,
+        to,
+        a,
+    }
+}
+
+const OTHERS: usize = 8;
+
+// The operations on numbers that have no operator, and shifts, by numbers below `OTHERS`.
+fn other(number: usize) -> Op
+    ensures { IsTrue (is_op_on 352 result) }
+{
+    let (to, c, a, b) = (TO, C, A, B);
+    match number {
+        0 => Op::Set { to: 300, k: 200 },
+        1 => Op::Copy { to: 300, a: 100 },
+        2 => Op::Com { to: 300, a: 100 },
+        3 => Op::Choose {
+            wide: false,
+            to,
+            c,
+            a,
+            b,
+        },
+        4 => Op::Choose {
+            wide: true,
+            to,
+            c,
+            a,
+            b,
+        },
+        5 => shift(Side::Right, false, 3),
+        6 => shift(Side::Right, true, 5),
+        _ => shift(Side::Left, true, 12),
     }
 }
 
 #[test]
-fn shifts_agree(rt: HostRuntime) -> Result<(), Fail> {
-    let right = fault_of_numbers(rt.alloc(), &shift(Side::Right, false, 3))?;
-    assert_eq!(rt; right, None);
-    let wide_right = fault_of_numbers(rt.alloc(), &shift(Side::Right, true, 5))?;
-    assert_eq!(rt; wide_right, None);
-    let wide_left = fault_of_numbers(rt.alloc(), &shift(Side::Left, true, 12))?;
-    assert_eq!(rt; wide_left, None);
+fn moves_choices_and_shifts_agree(rt: HostRuntime) -> Result<(), Fail> {
+    for number in 0..OTHERS {
+        let fault = fault_of_numbers(rt.alloc(), &other(number))?;
+        assert_eq!(rt; fault, None, "{number}");
+    }
     Ok(())
 }
 
 #[test]
-fn quotients_are_known(rt: HostRuntime) -> Result<(), Fail> {
-    // A, B, an operator, and the low byte of its result.
+fn results_are_known(rt: HostRuntime) -> Result<(), Fail> {
+    // A, B, an operator, whether it is on words, and the bytes of its result. A quotient of bytes leaves the high one.
     let cases = [
-        ("quotients_by_zero_are_known", 200, 0, BinOp::Div, 255),
-        ("quotients_by_zero_are_known", 200, 0, BinOp::Rem, 200),
-        ("quotients_are_known", 255, 129, BinOp::Div, 1),
-        ("quotients_are_known", 255, 129, BinOp::Rem, 126),
+        (255, 1, BinOp::Add, true, (0, 1)),
+        (200, 0, BinOp::Div, false, (255, 0xA5)),
+        (200, 0, BinOp::Rem, false, (200, 0xA5)),
+        (255, 129, BinOp::Div, false, (1, 0xA5)),
+        (255, 129, BinOp::Rem, false, (126, 0xA5)),
+        (65535, 65535, BinOp::Mul, true, (1, 0)),
     ];
-    for (name, a, b, f, low) in cases {
-        let found = outcome(rt.alloc(), &operation(f, false), Bank::Unknown, a, b, 0)?;
-        assert_eq!(rt; found, Some((low, 0xA5)), "{name}: {f:?}");
+    for (a, b, f, wide, bytes) in cases {
+        let found = outcome(rt.alloc(), &operation(f, wide), Bank::Unknown, a, b, 0)?;
+        assert_eq!(rt; found, Some(bytes), "{a} {f:?} {b}");
     }
-    Ok(())
-}
-
-#[test]
-fn wide_results_are_known(rt: HostRuntime) -> Result<(), Fail> {
-    let product = operation(BinOp::Mul, true);
-    let found = outcome(rt.alloc(), &product, Bank::Unknown, 65535, 65535, 0)?;
-    assert_eq!(rt; found, Some((1, 0)));
     let by_fifteen = shift(Side::Left, true, 15);
     let found = outcome(rt.alloc(), &by_fifteen, Bank::Unknown, 1, 0, 0)?;
     assert_eq!(rt; found, Some((0, 128)));

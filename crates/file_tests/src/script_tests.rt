@@ -1,5 +1,5 @@
 // Scripts: each kind of line, the causes of their faults, and the traces of small programs under them.
-ghost use Rattle.std.specs.Prelude.{◌<◌, ◌≤◌, ◌+◌, ◌^◌, IfOk, length};
+ghost use Rattle.std.specs.Prelude.{IfOk};
 ghost use Rattle.map_file.specs.MapRules.{IsMap};
 
 use crate::maps::{event, sample, state};
@@ -11,7 +11,6 @@ use map_file::Map;
 use pic_isa::Source;
 use pic_machine::Why;
 use std::alloc::{AllocError, Global};
-use std::process::Abort;
 use std::test::Fail;
 
 const WHOLE: &[u8] =
@@ -143,94 +142,89 @@ fn put_trace<S: Sink>(
     program: &[u16],
     script: &[u8],
     out: &mut S,
-) -> Result<Result<(), TraceFault>, Fail>
-    requires program { length program.now ≤ 8192 }
-    requires script { length script.now + 1 < 2 ^ 32 }
-{
+) -> Result<Result<(), TraceFault>, Fail> {
+    if program.len() > 8192 {
+        return Err(Fail::new("the program is too long"));
+    }
+    if script.len() > 1000 {
+        return Err(Fail::new("the script is too long"));
+    }
     let script = read_script(alloc, script)?;
     let image = Image::of_words(alloc, program)?;
     let map = map(alloc)?;
     Ok(trace(alloc, &image, &map, &script, out))
 }
 
-// Asserts how the trace of a program under a script ends, and what is put.
-fn expect_trace(
-    rt: &(impl AllocGlobal + Abort),
-    program: &[u16],
-    script: &[u8],
+// A program, a script, how its trace ends and what is put.
+#[derive(Clone, Copy)]
+struct Traced<'a> {
+    program: &'a [u16],
+    script: &'a str,
     ended: Result<(), TraceFault>,
-    put: &str,
-) -> Result<(), Fail>
-    requires program { length program.now ≤ 8192 }
-    requires script { length script.now + 1 < 2 ^ 32 }
-{
-    let mut out = SureSink::new(rt.alloc());
-    assert_eq!(rt; put_trace(rt.alloc(), program, script, &mut out)?, ended);
-    assert_eq!(rt; out.taken(), put.as_bytes());
+    put: &'a str,
+}
+
+const TRACES: &[Traced<'static>] = &[
+    // Each kind of line.
+    Traced {
+        program: &COUNTER,
+        script: "fill 01\nat 4 TMR1 INT\nat 5 INT\nsteps 12\n",
+        ended: Ok(()),
+        put: "4 latch INT\n4 latch TMR1\n4 take\n5 merge INT\n5 open Go\n8 port PORTB 02\n8 commit Go n=2 w=258 b=1\nend 12 deepest 1 n=2 w=258 b=1\n",
+    },
+    // A late interrupt is taken one step later. Of late odd boundaries 4 is none.
+    Traced {
+        program: &COUNTER,
+        script: "late always\nat 4 INT\nsteps 12\n",
+        ended: Ok(()),
+        put: "4 latch INT\n5 take\n6 open Go\n9 port PORTB 01\n9 commit Go n=1 w=1 b=0\nend 12 deepest 1 n=1 w=1 b=0\n",
+    },
+    Traced {
+        program: &COUNTER,
+        script: "late odd\nat 4 INT\nsteps 12\n",
+        ended: Ok(()),
+        put: "4 latch INT\n4 take\n5 open Go\n8 port PORTB 01\n8 commit Go n=1 w=1 b=0\nend 12 deepest 1 n=1 w=1 b=0\n",
+    },
+    // Pins change, and samples are told.
+    Traced {
+        program: &READER,
+        script: "fill FF\npin 0 PORTB 10\npin 0 PORTA 3F\npin 3 PORTB A5\nsteps 6\n",
+        ended: Ok(()),
+        put: "1 sample Go level 10\n3 sample Go level A5\n5 sample Go level A5\nend 6 deepest 0 n=255 w=65535 b=255\n",
+    },
+    // A stop ends the text.
+    Traced {
+        program: &[0x0063],
+        script: "at 0 INT\nat 1 INT CCP2\nsteps 9",
+        ended: Err(TraceFault::Stopped {
+            step: 0,
+            address: 0,
+            why: Why::Sleep,
+        }),
+        put: "0 latch INT\n",
+    },
+    Traced {
+        program: &[0x0000, 0x0062],
+        script: "at 0 INT\nat 1 INT CCP2\nsteps 9",
+        ended: Err(TraceFault::Stopped {
+            step: 1,
+            address: 1,
+            why: Why::UnknownWord,
+        }),
+        put: "0 latch INT\n1 merge INT\n1 latch CCP2\n",
+    },
+];
+
+#[test]
+fn traces_are_put_and_end(rt: HostRuntime) -> Result<(), Fail> {
+    let alloc = rt.alloc();
+    for row in TRACES {
+        let mut out = SureSink::new(alloc);
+        let ended = put_trace(alloc, row.program, row.script.as_bytes(), &mut out)?;
+        assert_eq!(rt; ended, row.ended, "{}", row.script);
+        assert_eq!(rt; out.taken(), row.put.as_bytes(), "{}", row.script);
+    }
     Ok(())
-}
-
-#[test]
-fn each_kind_of_line(rt: HostRuntime) -> Result<(), Fail> {
-    let script = b"fill 01\nat 4 TMR1 INT\nat 5 INT\nsteps 12\n";
-    let put =
-        "4 latch INT\n4 latch TMR1\n4 take\n5 merge INT\n5 open Go\n8 port PORTB 02\n8 commit Go n=2 w=258 b=1\nend 12 deepest 1 n=2 w=258 b=1\n";
-    expect_trace(&rt, &COUNTER, script, Ok(()), put)
-}
-
-// A tick at 4 and what it does, where interrupts are late.
-const LATE_ALWAYS: &[u8] = b"late always\nat 4 INT\nsteps 12\n";
-
-const TAKEN_LATER: &str =
-    "4 latch INT\n5 take\n6 open Go\n9 port PORTB 01\n9 commit Go n=1 w=1 b=0\nend 12 deepest 1 n=1 w=1 b=0\n";
-
-// The same where they are late at odd boundaries, of which 4 is none.
-const LATE_ODD: &[u8] = b"late odd\nat 4 INT\nsteps 12\n";
-
-const TAKEN_AT_ONCE: &str =
-    "4 latch INT\n4 take\n5 open Go\n8 port PORTB 01\n8 commit Go n=1 w=1 b=0\nend 12 deepest 1 n=1 w=1 b=0\n";
-
-#[test]
-fn a_late_interrupt_is_taken_one_step_later(rt: HostRuntime) -> Result<(), Fail> {
-    expect_trace(&rt, &COUNTER, LATE_ALWAYS, Ok(()), TAKEN_LATER)?;
-    expect_trace(&rt, &COUNTER, LATE_ODD, Ok(()), TAKEN_AT_ONCE)
-}
-
-#[test]
-fn pins_change_and_samples_are_told(rt: HostRuntime) -> Result<(), Fail> {
-    let put =
-        "1 sample Go level 10\n3 sample Go level A5\n5 sample Go level A5\nend 6 deepest 0 n=255 w=65535 b=255\n";
-    let script = b"fill FF\npin 0 PORTB 10\npin 0 PORTA 3F\npin 3 PORTB A5\nsteps 6\n";
-    expect_trace(&rt, &READER, script, Ok(()), put)
-}
-
-// The end of a trace at which the chip stops at the step of this number and at the same address.
-fn stopped(step: u16, why: Why) -> Result<(), TraceFault> {
-    Err(TraceFault::Stopped {
-        step: u32::from(step),
-        address: step,
-        why,
-    })
-}
-
-#[test]
-fn a_stop_ends_the_text(rt: HostRuntime) -> Result<(), Fail> {
-    let script = b"at 0 INT\nat 1 INT CCP2\nsteps 9";
-    expect_trace(
-        &rt,
-        &[0x0063],
-        script,
-        stopped(0, Why::Sleep),
-        "0 latch INT\n",
-    )?;
-    let put = "0 latch INT\n1 merge INT\n1 latch CCP2\n";
-    expect_trace(
-        &rt,
-        &[0x0000, 0x0062],
-        script,
-        stopped(1, Why::UnknownWord),
-        put,
-    )
 }
 
 // A sink of which the put with this number fails.

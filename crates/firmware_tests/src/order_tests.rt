@@ -96,19 +96,6 @@ fn a_third_arrival_is_merged(rt: HostRuntime) -> Result<(), Fail> {
     Ok(())
 }
 
-#[test]
-fn a_late_interrupt_is_taken_one_step_later(rt: HostRuntime) -> Result<(), Fail> {
-    let script = "late always\nat 5000 TMR1\nsteps 12000\n";
-    let trace = run(rt.alloc(), DIVISION, script)?;
-    assert!(rt;
-        trace.as_str().starts_with("5000 latch TMR1\n5001 take\n"),
-        "{trace}"
-    );
-    let commits = told(rt.alloc(), trace.as_str(), "commit ")?;
-    assert_eq!(rt; commits.as_str(), "Low d=3 q=20000");
-    Ok(())
-}
-
 // How often the urgent one of two short events interrupts the other, of the 130 steps from 5001 to 5130 at which it arrives.
 fn nested_shorts(alloc: Global, built: &Built, late: &str) -> Result<u32, Fail>
     requires writable { IsWritable built.now.image }
