@@ -1,10 +1,8 @@
 -- What firmware promises, of the counter's image and map and of moments of its run.
-use Rattle.std.specs.Prelude.{ℕ, Bool, not, ◌&&◌, ◌+◌, [], ◌∷◌}
+use Rattle.std.specs.Prelude.{ℕ, Bool, not, ◌&&◌, ◌+◌}
 use Rattle.std.proofs.Common.{◌≡◌, refl, sym, ◌∙◌, inl, inr, arith}
 use Rattle.pic_regs.specs.Map.{canonical}
-use Rattle.map_file.specs.declared.maps.Range.{Range}
 use Rattle.map_file.specs.MapRules.{IsMap}
-use Rattle.promise_examples.proofs.Runs.CounterMaps as maps
 use Rattle.firmware_promises.specs.Counts.{count, latched_count, cleared_count, commit_count, flag_after}
 use Rattle.firmware_promises.specs.MapNames.{is_listed}
 use Rattle.firmware_promises.specs.Firmware.{Names, Reports, count_below, may_be_written, is_at}
@@ -13,33 +11,23 @@ use Rattle.firmware_promises.specs.Settled.{Settled}
 use Rattle.promise_examples.proofs.Runs.Counting.{program, image, counter_map, tick_event, two_ticks}
 use Rattle.pic_machine.specs.Dids.{is_stop}
 
-abbrev range : ℕ → ℕ → Range
-range first last = record { from = first; to = last }
-
--- STATUS, PORTC, INTCON, the state and TRISC.
-lists_five : counter_map.regs ≡ range 0x003 0x003 ∷ range 0x007 0x007 ∷ range 0x00B 0x00B ∷ range 0x020 0x020 ∷ range 0x087 0x087 ∷ []
-unfolding maps.ranges_below
-lists_five = refl
-
 -- A listed address that is no lowest one of a register, or that the program may not write.
 abbrev is_wrong : ℕ → Bool
 is_wrong a = is_listed counter_map a && not (is_at a (canonical a) && may_be_written program a)
 
 none_is_wrong : count_below 512 is_wrong ≡ 0
-unfolding count_below maps.ranges_below
+unfolding count_below
 none_is_wrong = refl
 
 -- The map keeps the rules of maps, names what is the program's and reports rightly.
 keeps_the_rules : IsMap counter_map
-unfolding maps.ranges_below
 keeps_the_rules = search (arith)
 
 names_rightly : Names program image counter_map
-unfolding maps.ranges_below
 names_rightly = search (arith)
 
 reports_rightly : Reports program image counter_map
-unfolding count_below maps.ranges_below
+unfolding count_below
 reports_rightly = search (arith)
 
 -- No step stops the chip.

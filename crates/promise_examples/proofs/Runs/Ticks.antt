@@ -4,7 +4,6 @@ use Rattle.std.proofs.Common.{◌≡◌, refl}
 use Rattle.efrp_meaning.specs.Meaning.{state_after, ports_after}
 use Rattle.efrp_meaning.proofs.Examples.Programs.{tick}
 use Rattle.pic_machine.specs.declared.steps.Did.TheVariants.{Took, Ran}
-use Rattle.promise_examples.proofs.Runs.CounterMaps as maps
 use Rattle.firmware_promises.specs.Counts.{commits, opens, port_writes, reactions, chip_after, count, latched_count, cleared_count, commit_count}
 use Rattle.firmware_promises.specs.Firmware.{count_below}
 use Rattle.firmware_promises.specs.Follows.{reaction_puts}
@@ -112,5 +111,4 @@ inside_is_1_deep : (chip_after two_ticks 12).depth ≡ 1
 inside_is_1_deep = refl
 
 writes_are_listed : count two_ticks (writes_listed counter_map) 27 ≡ 27
-unfolding maps.ranges_below
 writes_are_listed = refl
